@@ -1,0 +1,199 @@
+//! The second program: an independent replay of document 01, with what is
+//! needed to compare it with another one.
+
+#[macro_use]
+mod named_list;
+mod aim;
+mod census;
+mod compare;
+mod controller;
+mod cost;
+mod damage;
+mod events;
+mod generate;
+mod leaf;
+mod ledger;
+mod moves;
+mod moves_of_debt;
+mod moves_of_donation;
+mod numbers;
+mod observe;
+mod random;
+mod refusal;
+mod replay;
+mod rules;
+mod selftest;
+mod setup;
+mod text;
+mod trace;
+mod tree;
+
+use std::env;
+use std::fs::File;
+use std::io::{self, BufRead, BufReader, BufWriter, Read, Write};
+use std::process::ExitCode;
+
+use census::Census;
+use generate::Style;
+use rules::{Mutant, Rules};
+
+const USAGE: &str = "usage: second replay [FILE] | selftest | gen SEED [RECORDS] [STYLE] \
+| census [FILE...] | compare OURS THEIRS TRACE | text [FILE] | bytes [FILE] \
+| mutant K replay [FILE] | mutants";
+
+/// Whether a command found all as it should be, or why it could not tell.
+type Done = Result<bool, String>;
+
+fn main() -> ExitCode {
+    let words: Vec<String> = env::args_os()
+        .skip(1)
+        .map(|word| word.to_string_lossy().into_owned())
+        .collect();
+    let words: Vec<&str> = words.iter().map(String::as_str).collect();
+    match run(&words) {
+        Ok(true) => ExitCode::SUCCESS,
+        Ok(false) => ExitCode::from(1),
+        Err(message) => {
+            eprintln!("second: {}", message);
+            ExitCode::from(2)
+        }
+    }
+}
+
+fn run(words: &[&str]) -> Done {
+    match words {
+        ["replay"] => replay_from(None, Rules::TRUE),
+        ["replay", file] => replay_from(Some(*file), Rules::TRUE),
+        ["mutant", number, "replay"] => replay_from(None, mutant_rules(number)?),
+        ["mutant", number, "replay", file] => replay_from(Some(*file), mutant_rules(number)?),
+        ["mutants"] => list_mutants().map_err(said),
+        ["selftest"] => selftest::run(&mut io::stdout().lock()).map_err(said),
+        ["gen", seed] => generate_trace(seed, None, None),
+        ["gen", seed, word] if Style::named(word).is_some() => {
+            generate_trace(seed, None, Some(*word))
+        }
+        ["gen", seed, records] => generate_trace(seed, Some(*records), None),
+        ["gen", seed, records, style] => generate_trace(seed, Some(*records), Some(*style)),
+        ["census", files @ ..] => take_census(files),
+        ["compare", ours, theirs, trace] => compare_outputs(ours, theirs, trace),
+        ["text"] => list_text(None),
+        ["text", file] => list_text(Some(*file)),
+        ["bytes"] => make_bytes(None),
+        ["bytes", file] => make_bytes(Some(*file)),
+        _ => Err(USAGE.to_string()),
+    }
+}
+
+fn said(fault: io::Error) -> String {
+    fault.to_string()
+}
+
+fn open(file: &str) -> Result<File, String> {
+    File::open(file).map_err(|fault| format!("{}: {}", file, fault))
+}
+
+/// A file, or standard input where none is named.
+fn input(file: Option<&str>) -> Result<Box<dyn Read>, String> {
+    match file {
+        None => Ok(Box::new(io::stdin().lock())),
+        Some(file) => Ok(Box::new(open(file)?)),
+    }
+}
+
+fn output() -> BufWriter<io::StdoutLock<'static>> {
+    BufWriter::with_capacity(1 << 16, io::stdout().lock())
+}
+
+fn replay_from(file: Option<&str>, rules: Rules) -> Done {
+    replay::replay(input(file)?, &mut output(), rules).map_err(said)?;
+    Ok(true)
+}
+
+fn mutant_rules(word: &str) -> Result<Rules, String> {
+    let number = word.parse::<usize>().unwrap_or(0);
+    match Mutant::ALL.get(number.wrapping_sub(1)) {
+        Some(mutant) => Ok(Rules::with(*mutant)),
+        None => Err(format!("mutants are numbered 1 to {}", Mutant::ALL.len())),
+    }
+}
+
+fn list_mutants() -> io::Result<bool> {
+    let mut out = output();
+    writeln!(out, "{}", Mutant::ALL.len())?;
+    for (place, mutant) in Mutant::ALL.iter().enumerate() {
+        writeln!(out, "{} {}", place + 1, mutant.name())?;
+    }
+    out.flush()?;
+    Ok(true)
+}
+
+/// Styles take turns with the seeds where none is named.
+fn generate_trace(seed: &str, records: Option<&str>, style: Option<&str>) -> Done {
+    let number = |word: &str| {
+        word.parse::<u64>()
+            .map_err(|_| format!("'{}' is no number", word))
+    };
+    let seed = number(seed)?;
+    let style = match style {
+        None => Style::ALL[(seed % Style::ALL.len() as u64) as usize],
+        Some(word) => Style::named(word).ok_or_else(|| format!("'{}' is no style", word))?,
+    };
+    let records = match records {
+        None => style.usual_records(),
+        Some(word) => number(word)?,
+    };
+    generate::generate(seed, records, style, &mut output()).map_err(said)?;
+    Ok(true)
+}
+
+fn take_census(files: &[&str]) -> Done {
+    let mut census = Census::new();
+    let mut add = |file: &str| {
+        let trace = open(file)?;
+        census
+            .add(trace)
+            .map_err(|fault| format!("{}: {}", file, fault))
+    };
+    for file in files {
+        add(file)?;
+    }
+    if files.is_empty() {
+        for line in io::stdin().lock().lines() {
+            let line = line.map_err(said)?;
+            if !line.is_empty() {
+                add(&line)?;
+            }
+        }
+    }
+    census.print(&mut output()).map_err(said)?;
+    let missing = census.missing();
+    for name in &missing {
+        eprintln!("never reached: {}", name);
+    }
+    Ok(missing.is_empty())
+}
+
+fn compare_outputs(ours: &str, theirs: &str, trace: &str) -> Done {
+    let mut our_lines = BufReader::new(open(ours)?);
+    let mut their_lines = BufReader::new(open(theirs)?);
+    let found = compare::first_difference(&mut our_lines, &mut their_lines).map_err(said)?;
+    match found {
+        None => Ok(true),
+        Some(difference) => {
+            let record = compare::record_behind(open(trace)?, difference.line).map_err(said)?;
+            compare::report(&difference, &record, &mut output()).map_err(said)?;
+            Ok(false)
+        }
+    }
+}
+
+fn list_text(file: Option<&str>) -> Done {
+    text::list(input(file)?, &mut output()).map_err(said)?;
+    Ok(true)
+}
+
+fn make_bytes(file: Option<&str>) -> Done {
+    let lines = BufReader::new(input(file)?);
+    text::assemble(lines, &mut output()).map_err(|fault| fault.to_string())?;
+    Ok(true)
+}

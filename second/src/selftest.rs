@@ -1,0 +1,461 @@
+//! The self test: document 01's bench numbers and whole case, numbers from
+//! outside it, round trips, and the refusals no trace can reach.
+
+use std::fmt::Debug;
+use std::io::{self, Write};
+
+use crate::controller::{Answer, Controller, MAX_ELAPSED, MAX_PERIOD, MAX_VIRTUAL_TIME};
+use crate::cost::{Bio, Model, Rates, FORCED, WRITE};
+use crate::generate::{generate, Style};
+use crate::leaf::relative_cost;
+use crate::ledger::audit;
+use crate::numbers::{members, Absolute, Relative};
+use crate::refusal::Refusal;
+use crate::replay::replay;
+use crate::rules::{Mutant, Rules};
+use crate::setup::{BENCH, PAPER};
+use crate::text::{assemble, list};
+use crate::trace::{decode, encode, Reader, Record, LONGEST};
+use crate::tree::Tree;
+
+/// Counts what held and keeps a line for what did not.
+struct Checks {
+    passed: u64,
+    failures: Vec<String>,
+}
+
+impl Checks {
+    fn equal<T: PartialEq + Debug>(&mut self, name: &str, got: T, wanted: T) {
+        if got == wanted {
+            self.passed += 1;
+        } else {
+            self.failures
+                .push(format!("{}: got {:?}, wanted {:?}", name, got, wanted));
+        }
+    }
+}
+
+/// A group of checks; a refusal ends it where none belongs.
+type Group = fn(&mut Checks) -> Result<(), Refusal>;
+
+const GROUPS: &[(&str, Group)] = &[
+    ("bench costs", bench_costs),
+    ("bench shares", bench_shares),
+    ("bench budget", bench_budget),
+    ("bench plans", bench_plans),
+    ("costs from outside", outside_costs),
+    ("shares from outside", outside_shares),
+    ("virtual time limit", virtual_time_limit),
+    ("order of refusals at a tick", tick_refusal_order),
+    ("release buffer", release_buffer),
+    ("record buffer", record_buffer),
+    ("places", places),
+    ("texts", text_refusals),
+];
+
+/// Runs all checks; the answer is whether none failed.
+pub fn run(out: &mut impl Write) -> io::Result<bool> {
+    let mut checks = Checks {
+        passed: 0,
+        failures: Vec::new(),
+    };
+    for (name, group) in GROUPS {
+        let went_through = group(&mut checks);
+        checks.equal(name, went_through, Ok(()));
+    }
+    whole_case(&mut checks)?;
+    for style in Style::ALL {
+        for seed in 0..20 {
+            generated_trace(&mut checks, seed, *style)?;
+        }
+    }
+    noticed_faults(&mut checks)?;
+    for failure in &checks.failures {
+        writeln!(out, "failed {}", failure)?;
+    }
+    let failed = checks.failures.len();
+    writeln!(out, "{} passed, {} failed", checks.passed, failed)?;
+    Ok(failed == 0)
+}
+
+fn tree_of(nodes: &[(u8, u16)]) -> Result<Tree, Refusal> {
+    let mut tree = Tree::new();
+    for &(parent, weight) in nodes {
+        tree.add(parent, weight)?;
+    }
+    Ok(tree)
+}
+
+/// Shares of all leaves, all of them active.
+fn shares_of(nodes: &[(u8, u16)]) -> Result<Vec<u64>, Refusal> {
+    let tree = tree_of(nodes)?;
+    tree.check(Rules::TRUE)?;
+    let shares = tree.base_shares(tree.leaves(), Rules::TRUE);
+    Ok(members(tree.leaves()).map(|leaf| shares[leaf]).collect())
+}
+
+fn flat(weights: &[u16]) -> Vec<(u8, u16)> {
+    weights.iter().map(|&weight| (0, weight)).collect()
+}
+
+/// A controller with all leaves of a flat tree active at their base shares.
+fn active_controller(weights: &[u16]) -> Result<Controller, Refusal> {
+    let tree = tree_of(&flat(weights))?;
+    let mut controller = Controller::start(tree, Model::new(&BENCH)?, 0, Rules::TRUE)?;
+    controller.active = controller.tree.leaves();
+    let shares = controller.tree.base_shares(controller.active, Rules::TRUE);
+    for number in members(controller.active) {
+        controller.leaves[number].share = shares[number];
+    }
+    Ok(controller)
+}
+
+fn bench_costs(checks: &mut Checks) -> Result<(), Refusal> {
+    let model = Model::new(&BENCH)?;
+    let random_read = |bytes| model.cost(false, false, bytes);
+    checks.equal("B1 512", random_read(512), Absolute(100_000));
+    checks.equal("B1 4,096", random_read(4_096), Absolute(100_000));
+    checks.equal("B1 8,192", random_read(8_192), Absolute(110_000));
+    let sequential_read = model.cost(false, true, 65_536);
+    checks.equal("B2", sequential_read, Absolute(170_000));
+    let random_write = model.cost(true, false, 4_096);
+    checks.equal("B3", random_write, Absolute(200_000));
+    let faster = Model::new(&Rates {
+        rseqiops: 200_000,
+        ..BENCH
+    })?;
+    checks.equal("B4", faster.read.sequential_base, 0);
+    Ok(())
+}
+
+fn bench_shares(checks: &mut Checks) -> Result<(), Refusal> {
+    let pair = shares_of(&flat(&[100, 300]))?;
+    checks.equal("B5", pair, vec![268_435_456, 805_306_368]);
+    let three = shares_of(&flat(&[100; 3]))?;
+    checks.equal("B6", three, vec![357_913_941; 3]);
+    let relative = relative_cost(Absolute(100_000), 357_913_941, Rules::TRUE);
+    checks.equal("B6 relative", relative, Relative(300_001));
+    let thinnest = shares_of(&[(0, 1), (0, 1_023), (1, 1), (1, 1_023)])?;
+    checks.equal("B7", thinnest.into_iter().min(), Some(1_024));
+    let thin = [(0, 1), (0, 1_023), (1, 1), (1, 1_024)];
+    checks.equal("B8", shares_of(&thin), Err(Refusal::Thin));
+    let smallest = tree_of(&thin)?.smallest_share(Rules::TRUE);
+    checks.equal("B8 share", smallest, 1_023);
+    Ok(())
+}
+
+/// A random read of 4,096 bytes, which costs 100,000 on the bench.
+fn read(node: u8, flags: u8) -> Bio {
+    Bio {
+        node,
+        flags,
+        id: 1,
+        sector: 0,
+        bytes: 4_096,
+    }
+}
+
+/// B9's leaf with the given budget; its share is a quarter.
+fn with_budget(budget: u64) -> Result<Controller, Refusal> {
+    let mut controller = active_controller(&[100, 300])?;
+    controller.leaves[1].budget = Relative(budget);
+    Ok(controller)
+}
+
+fn budget_and_debt(controller: &Controller) -> (u64, u64) {
+    let leaf = &controller.leaves[1];
+    (leaf.budget.0, leaf.debt.0)
+}
+
+fn bench_budget(checks: &mut Checks) -> Result<(), Refusal> {
+    let fits = with_budget(400_000)?.submit(&read(1, 0));
+    checks.equal("B9 fits", fits, Ok(Answer::Issued));
+    let waits = with_budget(399_999)?.submit(&read(1, 0));
+    checks.equal("B9 waits", waits, Ok(Answer::Waits));
+    let mut controller = with_budget(399_999)?;
+    let forced = controller.submit(&read(1, FORCED));
+    checks.equal("B9 forced", forced, Ok(Answer::OnDebt));
+    let owing = budget_and_debt(&controller);
+    checks.equal("B9 budget stays", owing, (399_999, 100_000));
+    checks.equal("B9 tick of 0", controller.tick(0, &mut []), Ok(0));
+    checks.equal("B9 repaid", budget_and_debt(&controller), (3, 1));
+    checks.equal("B9 tick of 1", controller.tick(1, &mut []), Ok(0));
+    checks.equal("B9 cleared", budget_and_debt(&controller), (0, 0));
+    Ok(())
+}
+
+/// Plans once with the given usages at E of 100,000,000.
+fn planned(weights: &[u16], usages: &[u64]) -> Result<Controller, Refusal> {
+    let mut controller = active_controller(weights)?;
+    controller.period = 100_000_000;
+    for (number, usage) in (1..).zip(usages) {
+        controller.leaves[number].usage = Absolute(*usage);
+        controller.leaves[number].accepted = true;
+    }
+    controller.plan()?;
+    Ok(controller)
+}
+
+fn active_shares(controller: &Controller) -> Vec<u64> {
+    members(controller.active)
+        .map(|number| controller.leaves[number].share)
+        .collect()
+}
+
+fn bench_plans(checks: &mut Checks) -> Result<(), Refusal> {
+    let mut pair = planned(&[100, 300], &[25_000_000, 30_000_000])?;
+    let shares = active_shares(&pair);
+    checks.equal("B10", shares, vec![671_088_639, 402_653_185]);
+    let three = planned(&[100; 3], &[100_000_000, 100_000_000, 1_000])?;
+    let shares = active_shares(&three);
+    checks.equal("B11", shares, vec![536_864_201, 536_864_200, 13_422]);
+    // B12's rise is the end of B10's donation, here by a write of 500,000.
+    pair.leaves[2].budget = Relative(1_000_000);
+    let answer = pair.submit(&Bio {
+        bytes: 65_536,
+        ..read(2, WRITE)
+    });
+    checks.equal("B12 waits", answer, Ok(Answer::Waits));
+    checks.equal("B12 share", pair.leaves[2].share, 805_306_368);
+    checks.equal("B12", pair.leaves[2].budget, Relative(500_000));
+    Ok(())
+}
+
+fn trace_of(text: &str) -> Vec<u8> {
+    let mut trace = Vec::new();
+    // A refused text leaves a short trace, which the checks then notice.
+    let _ = assemble(text.as_bytes(), &mut trace);
+    trace
+}
+
+fn whole_case(checks: &mut Checks) -> io::Result<()> {
+    let trace = trace_of(
+        "node 0 100\nnode 0 300\n\
+         model 409600000 50000 10000 204800000 25000 5000\nstart 0\n\
+         bio 1 0 7 0 4096\ntick 100000\ntick 400000\nplan\n",
+    );
+    let mut printed = Vec::new();
+    replay(trace.as_slice(), &mut printed, Rules::TRUE)?;
+    let printed = String::from_utf8_lossy(&printed).into_owned();
+    let wanted = "W 7\nr 7\nP 1 1073741824\n".to_string();
+    checks.equal("whole case", printed, wanted);
+    Ok(())
+}
+
+fn outside_costs(checks: &mut Checks) -> Result<(), Refusal> {
+    let model = Model::new(&PAPER)?;
+    checks.equal("paper read page", model.read.page, 8_383);
+    let base = model.read.sequential_base;
+    checks.equal("paper sequential read base", base, 103_575);
+    checks.equal("paper random read base", model.read.random_base, 109_016);
+    let page = |write, sequential| model.cost(write, sequential, 4_096).0;
+    checks.equal("paper sequential read", page(false, true), 111_958);
+    checks.equal("paper random read", page(false, false), 117_399);
+    checks.equal("paper sequential write", page(true, true), 34_777);
+    checks.equal("paper random write", page(true, false), 45_579);
+    Ok(())
+}
+
+fn outside_shares(checks: &mut Checks) -> Result<(), Refusal> {
+    let two = shares_of(&flat(&[1, 2]))?;
+    checks.equal("weights 1:2", two, vec![357_913_941, 715_827_882]);
+    let four = shares_of(&flat(&[3, 4, 5, 6]))?;
+    let wanted = vec![178_956_970, 238_609_294, 298_261_617, 357_913_941];
+    checks.equal("weights 3:4:5:6", four, wanted);
+    Ok(())
+}
+
+/// Ticks a controller; also tells whether that changed it.
+fn tick_changes(controller: &mut Controller, time: u64) -> (Result<usize, Refusal>, bool) {
+    let before = controller.clone();
+    let answer = controller.tick(time, &mut []);
+    (answer, *controller != before)
+}
+
+fn virtual_time_limit(checks: &mut Checks) -> Result<(), Refusal> {
+    let mut controller = active_controller(&[1])?;
+    controller.virtual_time = MAX_VIRTUAL_TIME - 1;
+    let exact = tick_changes(&mut controller, 1);
+    checks.equal("tick up to 2^60", exact, (Ok(0), true));
+    checks.equal("2^60", controller.virtual_time, 1 << 60);
+    let none = tick_changes(&mut controller, 1);
+    checks.equal("tick of 0 at 2^60", none, (Ok(0), false));
+    let refused = tick_changes(&mut controller, 2);
+    let wanted = (Err(Refusal::VirtualTimeLimit), false);
+    checks.equal("tick up to 2^60 + 1", refused, wanted);
+    Ok(())
+}
+
+/// One state in which 10 to 13 all hold for a late time, and fewer of them
+/// the earlier it is.
+fn tick_refusal_order(checks: &mut Checks) -> Result<(), Refusal> {
+    let mut controller = active_controller(&[1])?;
+    controller.submit(&read(1, 0))?;
+    controller.time = 1_000;
+    controller.period = MAX_PERIOD;
+    controller.virtual_time = MAX_VIRTUAL_TIME;
+    let back = tick_changes(&mut controller, 999);
+    checks.equal("order: 9", back, (Err(Refusal::TimeBack), false));
+    let jump = tick_changes(&mut controller, 1_001 + MAX_ELAPSED);
+    checks.equal("order: 10", jump, (Err(Refusal::TimeJump), false));
+    let late = tick_changes(&mut controller, 1_001);
+    checks.equal("order: 11", late, (Err(Refusal::VirtualTimeLimit), false));
+    controller.virtual_time = 0;
+    let long = tick_changes(&mut controller, 1_001);
+    checks.equal("order: 12", long, (Err(Refusal::PeriodLimit), false));
+    let short = tick_changes(&mut controller, 1_000);
+    checks.equal(
+        "order: 13",
+        short,
+        (Err(Refusal::ReleaseBufferShort), false),
+    );
+    Ok(())
+}
+
+/// Three waiting bios over two leaves need three places, released or not.
+fn release_buffer(checks: &mut Checks) -> Result<(), Refusal> {
+    let mut controller = active_controller(&[100, 300])?;
+    for (node, id) in [(2, 21), (1, 11), (2, 22)] {
+        let bio = Bio {
+            id,
+            ..read(node, 0)
+        };
+        checks.equal("release: waits", controller.submit(&bio), Ok(Answer::Waits));
+    }
+    let before = controller.clone();
+    let mut buffer = [9; 5];
+    let refused = controller.tick(400_000, &mut buffer[..2]);
+    checks.equal("release: 13", refused, Err(Refusal::ReleaseBufferShort));
+    checks.equal("release: state kept", controller == before, true);
+    checks.equal("release: buffer kept", buffer, [9; 5]);
+    let nothing = controller.tick(0, &mut buffer[..3]);
+    checks.equal("release: enough room", nothing, Ok(0));
+    let released = controller.tick(400_000, &mut buffer);
+    checks.equal("release: count", released, Ok(3));
+    checks.equal("release: by leaf", buffer, [11, 21, 22, 9, 9]);
+    Ok(())
+}
+
+/// One record of each kind, its numbers at their widest.
+fn widest_records() -> [Record; 7] {
+    let most = u64::MAX;
+    [
+        Record::Node {
+            parent: 255,
+            weight: u16::MAX,
+        },
+        Record::Model(Rates {
+            rbps: most,
+            rseqiops: most - 1,
+            rrandiops: most - 2,
+            wbps: most - 3,
+            wseqiops: most - 4,
+            wrandiops: most - 5,
+        }),
+        Record::Start { time: most },
+        Record::Bio(Bio {
+            node: 255,
+            flags: 254,
+            id: u32::MAX,
+            sector: most,
+            bytes: u32::MAX - 1,
+        }),
+        Record::Tick { time: most },
+        Record::Plan,
+        Record::Vrate { vrate: u16::MAX },
+    ]
+}
+
+fn record_buffer(checks: &mut Checks) -> Result<(), Refusal> {
+    for (record, wanted) in widest_records().iter().zip([4, 49, 9, 19, 9, 1, 3]) {
+        let name = record.to_string();
+        let mut buffer = [0xa5; LONGEST + 1];
+        let short = encode(record, &mut buffer[..wanted - 1]);
+        checks.equal(&name, short, Err(Refusal::RecordBufferShort));
+        checks.equal(&name, buffer, [0xa5; LONGEST + 1]);
+        checks.equal(&name, encode(record, &mut buffer), Ok(wanted));
+        let rest_kept = buffer[wanted..].iter().all(|&byte| byte == 0xa5);
+        checks.equal(&name, rest_kept, true);
+        let read_back = decode(&buffer[..wanted], 0);
+        checks.equal(&name, read_back, Ok(Some((*record, wanted))));
+        if wanted > 1 {
+            let cut = decode(&buffer[..wanted - 1], 0);
+            checks.equal(&name, cut, Err(Refusal::CutRecord));
+        }
+    }
+    Ok(())
+}
+
+fn places(checks: &mut Checks) -> Result<(), Refusal> {
+    let trace = [6, 6, 0];
+    checks.equal("place 0", decode(&trace, 0), Ok(Some((Record::Plan, 1))));
+    checks.equal("place 2", decode(&trace, 2), Err(Refusal::UnknownKind));
+    checks.equal("at the end", decode(&trace, 3), Ok(None));
+    checks.equal("beyond it", decode(&trace, 4), Err(Refusal::CutRecord));
+    checks.equal("empty trace", decode(&[], 0), Ok(None));
+    Ok(())
+}
+
+/// Texts that are no trace, with the line each fault is on.
+fn text_refusals(checks: &mut Checks) -> Result<(), Refusal> {
+    let refusals = [
+        ("plan\nplans", "line 2: 'plans' is no record"),
+        ("\n# x\nvrate", "line 3: number 1 is missing"),
+        ("tick -1", "line 1: '-1' is no number of at most 64 bits"),
+        ("vrate 65536", "line 1: 65536 is too wide for its place"),
+        ("plan 1", "line 1: '1' is one word too many"),
+        ("raw 0", "line 1: raw takes pairs of hex digits"),
+        ("raw 0g", "line 1: 'g' is no hex digit"),
+    ];
+    for (text, wanted) in refusals {
+        let said = assemble(text.as_bytes(), &mut Vec::new()).map_err(|fault| fault.to_string());
+        checks.equal(text, said, Err(wanted.to_string()));
+    }
+    Ok(())
+}
+
+/// A generated trace reads and writes back as itself, as records and as
+/// text, and keeps the promises of demand 3.
+fn generated_trace(checks: &mut Checks, seed: u64, style: Style) -> io::Result<()> {
+    let mut trace = Vec::new();
+    generate(seed, style.usual_records(), style, &mut trace)?;
+    let name = format!("trace {} {}", style.name(), seed);
+    let mut reader = Reader::new(&trace);
+    let mut written = Vec::new();
+    let mut buffer = [0; LONGEST];
+    while let Ok(Some(record)) = reader.next() {
+        if let Ok(length) = encode(&record, &mut buffer) {
+            written.extend_from_slice(&buffer[..length]);
+        }
+    }
+    checks.equal(&name, written.as_slice() == &trace[..reader.place], true);
+    let mut text = Vec::new();
+    list(trace.as_slice(), &mut text)?;
+    let text = String::from_utf8_lossy(&text);
+    checks.equal(&name, trace_of(&text) == trace, true);
+    checks.equal(&name, audit(&trace, Rules::TRUE), None);
+    Ok(())
+}
+
+/// The audit of demand 3 can fail: it notices these changed rules.
+fn noticed_faults(checks: &mut Checks) -> io::Result<()> {
+    let faults = [
+        (Mutant::BudgetKeptAtRise, "more spent than virtual time"),
+        (
+            Mutant::RemainderLost,
+            "shares do not sum to the base shares",
+        ),
+        (Mutant::SumOfAllChildren, "a non-donor below its base share"),
+        (Mutant::RefusedMovesEnd, "a refused call changed the state"),
+    ];
+    for (mutant, fault) in faults {
+        let mut noticed = false;
+        for seed in 0..20 {
+            let mut trace = Vec::new();
+            generate(seed, Style::Long.usual_records(), Style::Long, &mut trace)?;
+            noticed = noticed || audit(&trace, Rules::with(mutant)) == Some(fault);
+        }
+        checks.equal(mutant.name(), noticed, true);
+    }
+    Ok(())
+}
