@@ -1,0 +1,82 @@
+-- Cost of a bio.
+-- Assumes nothing.
+use mathlib.Core.Bool.{Bool, true, false, cond, _&&_}
+use Prim.Native.Nat.{ℕ, _+_, _-_, _*_, _/_, _%_}
+use lib.Dec.{eqb, leb, ltb}
+use Rattle.rules.specs.Numbers.{bpsLeast, bpsMost, iopsLeast, iopsMost, second, pageBytes, sectorBytes, bytesMost, sectorMost, nearMost}
+use Rattle.rules.specs.Units.{abs, CEIL, FLOOR}
+use Rattle.rules.specs.declared.units.Abs.{Abs}
+use Rattle.rules.specs.declared.cost.Rates.{Rates}
+use Rattle.rules.specs.declared.cost.Price.{Price}
+use Rattle.rules.specs.declared.cost.Model.{Model}
+use Rattle.rules.specs.declared.cost.Bio.{Bio}
+use Rattle.rules.specs.declared.budget.Row.{Row}
+
+-- "bps is .."
+unfoldable pub bpsInRange : ℕ → Bool
+bpsInRange bps = leb bpsLeast bps && leb bps bpsMost
+
+unfoldable pub iopsInRange : ℕ → Bool
+iopsInRange iops = leb iopsLeast iops && leb iops iopsMost
+
+unfoldable pub ratesInRange : Rates → Bool
+ratesInRange r =
+    bpsInRange (r .rbps) && iopsInRange (r .rseqiops) && iopsInRange (r .rrandiops)
+    && bpsInRange (r .wbps) && iopsInRange (r .wseqiops) && iopsInRange (r .wrandiops)
+
+-- "Page cost = .."
+unfoldable pub pageCost : ℕ → Abs
+pageCost bps = abs (CEIL (second * pageBytes) bps)
+
+-- "Base = ..": a difference of numbers stops at 0
+unfoldable pub baseCost : ℕ → ℕ → Abs
+baseCost bps iops = abs (CEIL second iops - pageCost bps .0)
+
+unfoldable pub priceOf : ℕ → ℕ → ℕ → Price
+priceOf bps seqiops randiops =
+    record { page = pageCost bps; sequential = baseCost bps seqiops; random = baseCost bps randiops }
+
+unfoldable pub priced : Rates → Model
+priced r = record {
+  read = priceOf (r .rbps) (r .rseqiops) (r .rrandiops);
+  write = priceOf (r .wbps) (r .wseqiops) (r .wrandiops);
+}
+
+-- "Bytes are .."; "first sector is .."; "flags have .."
+unfoldable pub bytesInRange : ℕ → Bool
+bytesInRange bytes = leb sectorBytes bytes && leb bytes bytesMost && eqb (bytes % sectorBytes) 0
+
+unfoldable pub sectorInRange : ℕ → Bool
+sectorInRange sector = leb sector sectorMost
+
+unfoldable pub flagsInRange : ℕ → Bool
+flagsInRange flags = ltb flags 4
+
+unfoldable pub bioInRange : Bio → Bool
+bioInRange b = bytesInRange (b .bytes) && sectorInRange (b .sector) && flagsInRange (b .flags)
+
+-- the two flags
+unfoldable pub isWrite : Bio → Bool
+isWrite b = eqb (b .flags % 2) 1
+
+unfoldable pub isForced : Bio → Bool
+isForced b = eqb (b .flags / 2 % 2) 1
+
+-- "A bio is sequential if .."; "A leaf's first .."
+unfoldable pub isNear : ℕ → ℕ → Bool
+isNear sector end = leb sector (end + nearMost) && leb end (sector + nearMost)
+
+unfoldable pub isSequential : Row → Bio → Bool
+isSequential row b = row .begun && isNear (b .sector) (row .end)
+
+-- "The end is .."
+unfoldable pub endOf : Bio → ℕ
+endOf b = b .sector + FLOOR (b .bytes) sectorBytes
+
+-- "Cost = .."
+unfoldable pub costAt : Price → Bool → ℕ → Abs
+costAt price sequential bytes =
+    abs (cond sequential (price .sequential .0) (price .random .0) + price .page .0 * CEIL bytes pageBytes)
+
+unfoldable pub costOf : Model → Row → Bio → Abs
+costOf model row b = costAt (cond (isWrite b) (model .write) (model .read)) (isSequential row b) (b .bytes)

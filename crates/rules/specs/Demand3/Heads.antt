@@ -1,0 +1,326 @@
+-- Each head of the ledger is what the answers and the states say, of one call upon any sound state: whose bios are released,
+-- which ids are written where, what counts as issued, what is repaid, forgiven and generated, and that a refusal counts nothing.
+-- Assumes nothing.
+use mathlib.Core.Path.{_≡_, refl, ap, _∙_}
+use mathlib.Core.Bool.{Bool, true, false, cond, _&&_}
+use mathlib.Core.List.{List, _++_}
+use mathlib.Core.Logic.{_⊎_, _≢_}
+use Prim.Native.Nat.{ℕ, suc, _+_, _*_, _≤_, _<_, min}
+use native.Mathlib.Nat.{zero-add, min-le-left}
+use native.Mathlib.Omega.{arith}
+use lib.ListN.{length, getD, drop, length-append, length-drop, List·getD-append}
+use lib.Seq.{getD-append-add, getD-drop}
+use Rattle.rules.specs.Numbers.{leafMost}
+use Rattle.rules.specs.Words.{sumTo, has, none}
+use Rattle.rules.specs.Units.{virt, FLOOR, relative, repayable}
+use Rattle.rules.specs.Budget.{rowAt, queueAt, shareAt, popped, oldestCost, reshared, rebased, activated, entered, endsDonation, answerIn, applied, settled, submission}
+use Rattle.rules.specs.Tick.{growth, advanced, gained, repayment, repaid as repaying, turn, turnOf, releases, lentAfter, tick as ticking}
+use Rattle.rules.specs.Plan.{usageAll, isDonation, donated, closed, shared, plan as planning}
+use Rattle.rules.specs.Refusals.{firstOf, submitChecks, tickChecks, planChecks, vrateChecks}
+use Rattle.rules.specs.Entries.{submitted, submittedBy, ticked, tickedBy, lentOf, lentBy, planned, plannedBy, vrated, vratedBy}
+use Rattle.rules.specs.Invariant.{Sound}
+use Rattle.rules.specs.Demand3.Ledger.{Call, after, costWaiting, costOfFirst, idWaiting, idsOfFirst, waiting, owed, ifTaken, ifIssued, ifWaits, ifOnDebt, costOn, ifAccepted, releasedAt, repaidAt, accepted, issued, released, repaid, forgiven, generated}
+use Rattle.rules.specs.Laws.Sums.{length-join, join-within, join-at}
+use Rattle.rules.specs.Laws.Tables.{getD-table}
+use Rattle.rules.specs.Laws.Queues.{popped-cost, popped-id}
+use Rattle.rules.specs.Laws.Rows.{keepAll, released-moves-up, turn-releases-all}
+use Rattle.rules.specs.Laws.States.{share-pos}
+use Rattle.rules.specs.Laws.Ticks.{active-turn, active-repays, idle-repays, leaf-tick, tick-row, tick-queue, tick-releases-fit}
+use Rattle.rules.specs.Laws.Plans.{half-of-a-debt-is-forgiven-when-quiet, nothing-is-forgiven-when-busy}
+use Rattle.rules.specs.Laws.Submits.{costIn, cost-here, cost-elsewhere, none-issued as issues-none, submit-waiting, submit-owed}
+use Rattle.rules.specs.Laws.Refused.{submit-refuses-exactly-when, tick-refuses-exactly-when, plan-refuses, a-refused-bio-changes-nothing, a-refused-tick-changes-nothing, a-refused-plan-changes-nothing, a-refused-vrate-changes-nothing}
+use Rattle.rules.specs.declared.units.Virt.{Virt}
+use Rattle.rules.specs.declared.cost.Bio.{Bio}
+use Rattle.rules.specs.declared.budget.Row.{Row}
+use Rattle.rules.specs.declared.budget.Queue.{Queue}
+use Rattle.rules.specs.declared.budget.Clock.{Clock}
+use Rattle.rules.specs.declared.budget.Controller.{Controller}
+use Rattle.rules.specs.declared.refusals.Refusal.{Refusal}
+use Rattle.rules.specs.declared.refusals.Verdict.{Verdict}
+use Rattle.rules.specs.declared.refusals.Verdict.the-variants.{Accepted, Refused}
+use Rattle.rules.specs.declared.refusals.Answer.{Answer}
+use Rattle.rules.specs.declared.refusals.Answer.the-variants.{Issued, Waits, OnDebt, Refused as Declined}
+use Rattle.rules.specs.declared.refusals.Count.the-variants.{Released, Refused as Unticked}
+
+-- ---- released: how many bios leaf n releases, and which
+abbrev pub howMany : Virt → Controller → ℕ → ℕ
+howMany g c n = length (turnOf g c n .ids)
+
+turn-moves-up : (at : Queue → ℕ → ℕ) → ((q : Queue) (i : ℕ) → at (popped q) i ≡ at q (suc i)) → (g : Virt) (c : Controller) (n i : ℕ)
+    → at (turnOf g c n .queue) i ≡ at (queueAt c n) (howMany g c n + i)
+unfolding turnOf turn
+turn-moves-up at up g c n i = go (has (c .active) n)
+  where
+    go : (t : Bool)
+        → at (cond t (turn g (shareAt c n) (rowAt c n) (queueAt c n)) (keepAll (rowAt c n) (queueAt c n)) .queue) i
+        ≡ at (queueAt c n) (length (cond t (turn g (shareAt c n) (rowAt c n) (queueAt c n)) (keepAll (rowAt c n) (queueAt c n)) .ids) + i)
+    go true = released-moves-up at up (shareAt c n) (repaying (shareAt c n) (gained g (rowAt c n))) (queueAt c n) i
+    go false = ap (at (queueAt c n)) (omega arith)
+
+module _ {c : Controller} (sound : Sound c) (g : Virt) (n : ℕ) where
+  pub released-ids-are-the-first-of-the-queue : turnOf g c n .ids ≡ idsOfFirst (queueAt c n) (howMany g c n)
+  released-ids-are-the-first-of-the-queue = leaf-tick sound g n .ids
+
+  pub released-cost-is-the-sum-of-their-costs : releasedAt g c n ≡ costOfFirst (queueAt c n) (howMany g c n)
+  unfolding releasedAt
+  released-cost-is-the-sum-of-their-costs = refl
+
+  pub as-many-leave-the-queue : turnOf g c n .queue .len + howMany g c n ≡ queueAt c n .len
+  as-many-leave-the-queue = leaf-tick sound g n .left
+
+  -- place by place, ids and costs
+  pub those-behind-them-still-wait : (i : ℕ)
+      → (idWaiting (turnOf g c n .queue) i ≡ idWaiting (queueAt c n) (howMany g c n + i))
+      × (costWaiting (turnOf g c n .queue) i ≡ costWaiting (queueAt c n) (howMany g c n + i))
+  those-behind-them-still-wait i = (turn-moves-up idWaiting popped-id g c n i, turn-moves-up costWaiting popped-cost g c n i)
+
+  -- and no more could be: nothing waits, or the oldest does not fit
+  pub no-bio-that-fits-still-waits : has (c .active) n ≡ true → turnOf g c n .row .debt .0 ≡ 0
+      → (turnOf g c n .queue .len ≡ 0) ⊎ (turnOf g c n .row .budget .0 < relative (oldestCost (turnOf g c n .queue)) (shareAt c n) .0)
+  no-bio-that-fits-still-waits e =
+      rw (active-turn g c n e) (turn-releases-all g (shareAt c n) (rowAt c n) (queueAt c n) (share-pos sound n e) (sound .queue n))
+
+-- ---- the ids that an accepted tick writes
+module _ {c : Controller} (sound : Sound c) (time : ℕ) (lent : List ℕ) (taken : firstOf (tickChecks time (length lent) c) ≡ Accepted) where
+  written : lentOf time lent c ≡ releases (growth (c .clock) time) c ++ drop (length (releases (growth (c .clock) time) c)) lent
+  unfolding lentOf lentBy lentAfter
+  written = rw taken
+
+  count : length (releases (growth (c .clock) time) c) ≡ sumTo (howMany (growth (c .clock) time) c) leafMost
+  unfolding releases
+  count = length-join (λ n. turnOf (growth (c .clock) time) c n .ids) leafMost
+
+  pub tick-answers-how-many-are-released : ticked time lent c .answer ≡ Released (sumTo (howMany (growth (c .clock) time) c) leafMost)
+  unfolding ticked tickedBy
+  tick-answers-how-many-are-released = rw taken (ap Released count)
+
+  -- those of leaf m + 1 stand behind those of the leaves 1 to m, oldest first
+  pub buffer-has-the-released-ids-by-rising-leaf : (m j : ℕ) → m < leafMost → j < howMany (growth (c .clock) time) c (suc m)
+      → getD (lentOf time lent c) (sumTo (howMany (growth (c .clock) time) c) m + j) 0 ≡ idWaiting (queueAt c (suc m)) j
+  unfolding releases idsOfFirst
+  buffer-has-the-released-ids-by-rising-leaf m j l h =
+      let ids : ℕ → List ℕ = λ n. turnOf (growth (c .clock) time) c n .ids in
+      let at : ℕ = sumTo (howMany (growth (c .clock) time) c) m + j in
+      ap (λ (b : List ℕ). getD b at 0) written
+      ∙ List·getD-append (releases (growth (c .clock) time) c) _ 0 at (omega (arith, join-within ids m leafMost l))
+      ∙ join-at ids m leafMost j 0 l h
+      ∙ ap (λ (b : List ℕ). getD b j 0) (released-ids-are-the-first-of-the-queue sound (growth (c .clock) time) (suc m))
+      ∙ getD-table (idWaiting (queueAt c (suc m))) 0 (howMany (growth (c .clock) time) c (suc m)) j 0 h
+      ∙ ap (idWaiting (queueAt c (suc m))) (zero-add j)
+
+  pub places-behind-the-last-stay : (i : ℕ)
+      → getD (lentOf time lent c) (sumTo (howMany (growth (c .clock) time) c) leafMost + i) 0
+      ≡ getD lent (sumTo (howMany (growth (c .clock) time) c) leafMost + i) 0
+  places-behind-the-last-stay i =
+      rw (written, ← count)
+      (getD-append-add (releases (growth (c .clock) time) c) _ i 0 ∙ getD-drop (length (releases (growth (c .clock) time) c)) lent i 0)
+
+  pub buffer-keeps-its-length : length (lentOf time lent c) ≡ length lent
+  buffer-keeps-its-length =
+      rw (written, length-append, length-drop) (omega (arith, tick-releases-fit sound time (length lent) taken))
+
+  -- the head of the ledger, and the queue that the call leaves
+  pub released-is-the-cost-of-the-first : (n : ℕ)
+      → released (Call.tick time lent) c n ≡ costOfFirst (queueAt c n) (howMany (growth (c .clock) time) c n)
+  unfolding released releasedAt
+  released-is-the-cost-of-the-first n = rw taken
+
+  pub queue-after-is-that-of-the-turn : (n : ℕ) → queueAt (after (Call.tick time lent) c) n ≡ turnOf (growth (c .clock) time) c n .queue
+  unfolding ticked tickedBy
+  queue-after-is-that-of-the-turn n = ap (λ (v : Verdict). queueAt (tickedBy v time c .state) n) taken ∙ tick-queue sound time n
+
+-- ---- accepted and issued: by the answer, and of the bio's leaf alone
+takes-none : (a : Answer) → ifTaken a 0 ≡ 0
+takes-none Issued = refl
+takes-none Waits = refl
+takes-none OnDebt = refl
+takes-none (Declined x) = refl
+
+module _ (b : Bio) (c : Controller) where
+  pub an-issued-bio-counts-its-cost : submitted b c .answer ≡ Issued → issued (Call.submit b) c (b .node) ≡ costIn c b .0
+  unfolding issued
+  an-issued-bio-counts-its-cost e = rw (e, cost-here b c)
+
+  pub no-other-answer-counts-as-issued : (submitted b c .answer ≡ Issued → ⊥) → (n : ℕ) → issued (Call.submit b) c n ≡ 0
+  unfolding issued
+  no-other-answer-counts-as-issued h n = go (submitted b c .answer) h
+    where
+      go : (a : Answer) → (a ≡ Issued → ⊥) → ifIssued a (costOn n b c) ≡ 0
+      go Issued k = absurd (k refl)
+      go Waits k = refl
+      go OnDebt k = refl
+      go (Declined x) k = refl
+
+  pub a-bio-not-refused-counts-as-accepted : ((x : Refusal) → submitted b c .answer ≡ Declined x → ⊥)
+      → accepted (Call.submit b) c (b .node) ≡ costIn c b .0
+  unfolding accepted
+  a-bio-not-refused-counts-as-accepted h = go (submitted b c .answer) h ∙ cost-here b c
+    where
+      go : (a : Answer) → ((x : Refusal) → a ≡ Declined x → ⊥) → ifTaken a (costOn (b .node) b c) ≡ costOn (b .node) b c
+      go Issued k = refl
+      go Waits k = refl
+      go OnDebt k = refl
+      go (Declined x) k = absurd (k x refl)
+
+  pub no-other-leaf-counts : (n : ℕ) → n ≢ b .node → (accepted (Call.submit b) c n ≡ 0) × (issued (Call.submit b) c n ≡ 0)
+  unfolding accepted issued
+  no-other-leaf-counts n e =
+      rw (cost-elsewhere b c n e) (takes-none (submitted b c .answer), issues-none (submitted b c .answer))
+
+-- ---- waiting and owed: by the answer
+module _ {c : Controller} (sound : Sound c) (b : Bio) (n : ℕ) where
+  pub what-waits-grows-by-a-bio-that-waits : waiting (after (Call.submit b) c) n ≡ waiting c n + ifWaits (submitted b c .answer) (costOn n b c)
+  what-waits-grows-by-a-bio-that-waits = submit-waiting sound b n
+
+  pub what-is-owed-grows-by-a-bio-on-debt : owed (after (Call.submit b) c) n ≡ owed c n + ifOnDebt (submitted b c .answer) (costOn n b c)
+  what-is-owed-grows-by-a-bio-on-debt = submit-owed sound b n
+
+-- ---- repaid: the smaller of the debt and what the budget, with the tick's gain, can repay; the debt falls by just that
+module _ {c : Controller} (sound : Sound c) (time : ℕ) (lent : List ℕ) (n : ℕ) where
+  pub repaid-is-the-smaller-of-debt-and-budget : firstOf (tickChecks time (length lent) c) ≡ Accepted
+      → repaid (Call.tick time lent) c n ≡ min (owed c n) (repayable (virt (rowAt c n .budget .0 + growth (c .clock) time .0)) (shareAt c n) .0)
+  unfolding repaid repayment
+  repaid-is-the-smaller-of-debt-and-budget taken = rw taken (go (has (c .active) n) refl)
+    where
+      go : (t : Bool) → has (c .active) n ≡ t
+          → repaidAt (growth (c .clock) time) c n
+          ≡ min (owed c n) (repayable (virt (rowAt c n .budget .0 + growth (c .clock) time .0)) (shareAt c n) .0)
+      go true e = active-repays (growth (c .clock) time) c n e
+      go false e =
+          omega (
+            arith,
+            idle-repays (growth (c .clock) time) c n e,
+            sound .idle n e .no-debt,
+            min-le-left (owed c n) (repayable (virt (rowAt c n .budget .0 + growth (c .clock) time .0)) (shareAt c n) .0),
+          )
+
+  pub debt-falls-by-just-what-is-repaid : owed (after (Call.tick time lent) c) n + repaid (Call.tick time lent) c n ≡ owed c n
+  unfolding repaid ticked tickedBy
+  debt-falls-by-just-what-is-repaid = go (firstOf (tickChecks time (length lent) c))
+    where
+      go : (v : Verdict) → owed (tickedBy v time c .state) n + ifAccepted v (repaidAt (growth (c .clock) time) c n) ≡ owed c n
+      go Accepted = omega (arith, leaf-tick sound (growth (c .clock) time) n .debt, ap (λ (r : Row). r .debt .0) (tick-row sound time n))
+      go (Refused x) = omega arith
+
+-- ---- forgiven: half of each debt, rounded down, exactly when twice the usage is below E
+module _ {c : Controller} (sound : Sound c) (n : ℕ) where
+  pub half-of-the-debt-is-forgiven-when-quiet : 2 * usageAll c .0 < c .clock .since .0 → forgiven Call.plan c n ≡ FLOOR (owed c n) 2
+  half-of-the-debt-is-forgiven-when-quiet quiet = half-of-a-debt-is-forgiven-when-quiet sound quiet n .0
+
+  pub nothing-is-forgiven-else : c .clock .since .0 ≤ 2 * usageAll c .0 → forgiven Call.plan c n ≡ 0
+  nothing-is-forgiven-else busy = nothing-is-forgiven-when-busy sound busy n .0
+
+-- ---- generated: the growth of virtual time
+entering-keeps-the-clock : (n : ℕ) (c : Controller) → entered n c .clock ≡ c .clock
+unfolding entered activated rebased reshared
+entering-keeps-the-clock n c = go (has (c .active) n)
+  where
+    go : (t : Bool) → cond t c (activated n c) .clock ≡ c .clock
+    go true = refl
+    go false = refl
+
+settling-keeps-the-clock : (a : Answer) (b : Bio) (c : Controller) → settled a b c .clock ≡ c .clock
+unfolding settled applied rebased reshared
+settling-keeps-the-clock a b c = go (endsDonation a && has (c .donors) (b .node))
+  where
+    go : (t : Bool) → cond t (rebased (c .active) (applied a b c)) (applied a b c) .clock ≡ c .clock
+    go true = refl
+    go false = refl
+
+submitting-keeps-the-clock : (b : Bio) (c : Controller) (v : Verdict) → submittedBy v b c .state .clock ≡ c .clock
+unfolding submittedBy submission
+submitting-keeps-the-clock b c Accepted =
+    settling-keeps-the-clock (answerIn (entered (b .node) c) b) b (entered (b .node) c) ∙ entering-keeps-the-clock (b .node) c
+submitting-keeps-the-clock b c (Refused x) = refl
+
+sharing-keeps-the-clock : (active donors : ℕ) (bases targets : List ℕ) (c : Controller) → shared active donors bases targets c .clock ≡ c .clock
+unfolding shared reshared
+sharing-keeps-the-clock active donors bases targets c = go (isDonation active donors)
+  where
+    go : (t : Bool) → cond t (reshared active donors (donated active donors bases targets) c) (reshared active none bases c) .clock ≡ c .clock
+    go true = refl
+    go false = refl
+
+planning-keeps-virtual-time : (c : Controller) (v : Verdict) → plannedBy v c .state .clock .vtime .0 ≡ c .clock .vtime .0
+unfolding plannedBy planning closed
+planning-keeps-virtual-time c Accepted = ap (λ (k : Clock). k .vtime .0) (sharing-keeps-the-clock _ _ _ _ (closed _ _ c))
+planning-keeps-virtual-time c (Refused x) = refl
+
+pub generated-is-the-growth-of-virtual-time : (k : Call) (c : Controller) → generated k c + c .clock .vtime .0 ≡ after k c .clock .vtime .0
+unfolding generated submitted ticked tickedBy ticking advanced planned vrated vratedBy
+generated-is-the-growth-of-virtual-time (Call.submit b) c =
+    omega (arith, ap (λ (k : Clock). k .vtime .0) (submitting-keeps-the-clock b c (firstOf (submitChecks b c))))
+generated-is-the-growth-of-virtual-time (Call.tick time lent) c = go (firstOf (tickChecks time (length lent) c))
+  where
+    go : (v : Verdict) → ifAccepted v (growth (c .clock) time .0) + c .clock .vtime .0 ≡ tickedBy v time c .state .clock .vtime .0
+    go Accepted = omega arith
+    go (Refused x) = omega arith
+generated-is-the-growth-of-virtual-time Call.plan c = omega (arith, planning-keeps-virtual-time c (firstOf (planChecks c)))
+generated-is-the-growth-of-virtual-time (Call.vrate v) c = go (firstOf (vrateChecks v))
+  where
+    go : (t : Verdict) → 0 + c .clock .vtime .0 ≡ vratedBy t v c .state .clock .vtime .0
+    go Accepted = omega arith
+    go (Refused x) = omega arith
+
+-- ---- a refused call: nothing in any head, and the state stays; the buffer too, by `a-refused-tick-changes-nothing`
+-- the answer of the call is this refusal
+abbrev pub Refuses : Call → Controller → Refusal → Type 0
+Refuses (Call.submit b) c x = submitted b c .answer ≡ Declined x
+Refuses (Call.tick time lent) c x = ticked time lent c .answer ≡ Unticked x
+Refuses Call.plan c x = planned c .answer ≡ Refused x
+Refuses (Call.vrate v) c x = vrated v c .answer ≡ Refused x
+
+pub record CountsNothing (k : Call) (c : Controller) : Type 0 where
+  pub state-stays : after k c ≡ c
+  pub none-accepted : (n : ℕ) → accepted k c n ≡ 0
+  pub none-issued : (n : ℕ) → issued k c n ≡ 0
+  pub none-released : (n : ℕ) → released k c n ≡ 0
+  pub none-repaid : (n : ℕ) → repaid k c n ≡ 0
+  pub none-forgiven : (n : ℕ) → forgiven k c n ≡ 0
+  pub none-generated : generated k c ≡ 0
+
+pub a-refused-call-counts-nothing : (k : Call) (c : Controller) (x : Refusal) → Refuses k c x → CountsNothing k c
+unfolding accepted issued released repaid forgiven generated submitted submittedBy
+a-refused-call-counts-nothing (Call.submit b) c x e =
+    let v : firstOf (submitChecks b c) ≡ Refused x = submit-refuses-exactly-when b c x .0 e in
+    record {
+      state-stays = a-refused-bio-changes-nothing b c x e;
+      none-accepted = λ n. ap (λ (t : Verdict). ifTaken (submittedBy t b c .answer) (costOn n b c)) v;
+      none-issued = λ n. ap (λ (t : Verdict). ifIssued (submittedBy t b c .answer) (costOn n b c)) v;
+      none-released = λ n. refl;
+      none-repaid = λ n. refl;
+      none-forgiven = λ n. refl;
+      none-generated = refl;
+    }
+a-refused-call-counts-nothing (Call.tick time lent) c x e =
+    let v : firstOf (tickChecks time (length lent) c) ≡ Refused x = tick-refuses-exactly-when time lent c x .0 e in
+    record {
+      state-stays = a-refused-tick-changes-nothing time lent c x e .0;
+      none-accepted = λ n. refl;
+      none-issued = λ n. refl;
+      none-released = λ n. rw v;
+      none-repaid = λ n. rw v;
+      none-forgiven = λ n. refl;
+      none-generated = rw v;
+    }
+a-refused-call-counts-nothing Call.plan c x e =
+    let v : firstOf (planChecks c) ≡ Refused x = plan-refuses c x .0 e in
+    record {
+      state-stays = a-refused-plan-changes-nothing c x e;
+      none-accepted = λ n. refl;
+      none-issued = λ n. refl;
+      none-released = λ n. refl;
+      none-repaid = λ n. refl;
+      none-forgiven = λ n. rw v;
+      none-generated = refl;
+    }
+a-refused-call-counts-nothing (Call.vrate w) c x e =
+    record {
+      state-stays = a-refused-vrate-changes-nothing w c x e;
+      none-accepted = λ n. refl;
+      none-issued = λ n. refl;
+      none-released = λ n. refl;
+      none-repaid = λ n. refl;
+      none-forgiven = λ n. refl;
+      none-generated = refl;
+    }

@@ -1,0 +1,98 @@
+-- Demand 3 in the customer's sentences: over every finite list of calls, of any kind and with any arguments, from a fresh
+-- start. The bound holds between any two moments; from the start on nothing is saved yet.
+-- Assumes nothing.
+use mathlib.Core.Path.{_≡_}
+use mathlib.Core.Bool.{true, false}
+use mathlib.Core.List.{List, [], _∷_}
+use Prim.Native.Nat.{ℕ, _+_, _*_, _≤_}
+use native.Mathlib.Nat.{le-of-mul-le-mul-right}
+use native.Mathlib.Omega.{arith}
+use Rattle.rules.specs.Numbers.{WHOLE, leafMost}
+use Rattle.rules.specs.Words.{sumTo, has, none}
+use Rattle.rules.specs.Units.{CEIL}
+use Rattle.rules.specs.Tree.{baseShare, baseShares}
+use Rattle.rules.specs.Budget.{shareAt}
+use Rattle.rules.specs.Entries.{started}
+use Rattle.rules.specs.Invariant.{Sound}
+use Rattle.rules.specs.Demand3.Ledger.{Call, after, waiting, owed, accepted, issued, released, repaid, forgiven, generated, charged, saved}
+use Rattle.rules.specs.Demand3.Steps.{call-keeps, call-flow, call-books}
+use Rattle.rules.specs.Demand3.Heads.{generated-is-the-growth-of-virtual-time}
+use Rattle.rules.specs.Laws.Units.{ceil-enough}
+use Rattle.rules.specs.Laws.Starts.{start-gives, start-saves-nothing, start-owes-nothing}
+use Rattle.rules.specs.declared.cost.Rates.{Rates}
+use Rattle.rules.specs.declared.tree.Tree.{Tree}
+use Rattle.rules.specs.declared.budget.Controller.{Controller}
+
+-- the state after a list of calls
+abbrev pub run : List Call → Controller → Controller
+run [] c = c
+run (k ∷ ks) c = run ks (after k c)
+
+-- what a list of calls adds to a head: each call by the state that it comes upon
+abbrev pub sumOf : (Call → Controller → ℕ) → List Call → Controller → ℕ
+sumOf head [] c = 0
+sumOf head (k ∷ ks) c = head k c + sumOf head ks (after k c)
+
+-- every state that calls reach is sound
+pub reached-is-sound : (ks : List Call) {c : Controller} → Sound c → Sound (run ks c)
+reached-is-sound [] sound = sound
+reached-is-sound (k ∷ ks) sound = reached-is-sound ks (call-keeps k sound)
+
+-- ---- between any two moments
+pub never-overspent-between : (ks : List Call) {c : Controller} → Sound c
+    → sumOf charged ks c * WHOLE + saved (run ks c) ≤ saved c + sumOf generated ks c * WHOLE
+never-overspent-between [] {c} sound = omega arith
+never-overspent-between (k ∷ ks) {c} sound = omega (arith, call-flow k sound, never-overspent-between ks (call-keeps k sound))
+
+-- what is charged between two moments is at most the virtual time generated between them, and what was saved at the first
+pub never-overspent-in-any-window : (ks : List Call) {c : Controller} → Sound c
+    → sumOf charged ks c ≤ sumOf generated ks c + CEIL (saved c) WHOLE
+never-overspent-in-any-window ks {c} sound =
+    le-of-mul-le-mul-right {k = WHOLE} (omega (arith, never-overspent-between ks sound, ceil-enough (saved c) WHOLE (omega arith))) (omega arith)
+
+-- and what is generated is the growth of virtual time
+pub generated-is-virtual-time : (ks : List Call) (c : Controller) → sumOf generated ks c + c .clock .vtime .0 ≡ run ks c .clock .vtime .0
+generated-is-virtual-time [] c = omega arith
+generated-is-virtual-time (k ∷ ks) c =
+    omega (arith, generated-is-the-growth-of-virtual-time k c, generated-is-virtual-time ks (after k c))
+
+pub books-balance-between : (ks : List Call) {c : Controller} → Sound c → (n : ℕ)
+    → waiting c n + owed c n + sumOf (λ k s. accepted k s n) ks c
+    ≡ sumOf (λ k s. issued k s n) ks c + sumOf (λ k s. released k s n) ks c + waiting (run ks c) n + owed (run ks c) n
+    + sumOf (λ k s. repaid k s n) ks c + sumOf (λ k s. forgiven k s n) ks c
+books-balance-between [] {c} sound n = omega arith
+books-balance-between (k ∷ ks) {c} sound n = omega (arith, call-books k sound n, books-balance-between ks (call-keeps k sound) n)
+
+-- ---- from a fresh start
+module _ (tree : Tree) (rates : Rates) (time : ℕ) (ks : List Call) where
+  -- the cost of bios answered issued or released, plus debt repaid, is at most the virtual time that the ticks generated
+  pub never-overspent : sumOf charged ks (started tree rates time .state) ≤ sumOf generated ks (started tree rates time .state)
+  never-overspent =
+      le-of-mul-le-mul-right {k = WHOLE}
+      (omega (arith, never-overspent-between ks (start-gives tree rates time), start-saves-nothing tree rates time)) (omega arith)
+
+  -- of each leaf: the cost of its accepted bios is issued + released + waiting + owed + repaid + forgiven
+  pub books-balance : (n : ℕ)
+      → sumOf (λ k s. accepted k s n) ks (started tree rates time .state)
+      ≡ sumOf (λ k s. issued k s n) ks (started tree rates time .state)
+      + sumOf (λ k s. released k s n) ks (started tree rates time .state)
+      + waiting (run ks (started tree rates time .state)) n
+      + owed (run ks (started tree rates time .state)) n
+      + sumOf (λ k s. repaid k s n) ks (started tree rates time .state)
+      + sumOf (λ k s. forgiven k s n) ks (started tree rates time .state)
+  books-balance n = omega (arith, books-balance-between ks (start-gives tree rates time) n, start-owes-nothing tree rates time n)
+
+  -- the active shares sum exactly to the sum of their base shares, whatever is donated
+  pub donation-keeps-the-sum : (c : Controller) → c ≡ run ks (started tree rates time .state)
+      → sumTo (shareAt c) leafMost ≡ sumTo (baseShare (c .tree) (c .active)) leafMost
+  donation-keeps-the-sum c e = rw e (reached-is-sound ks (start-gives tree rates time) .share-sum)
+
+  -- no active leaf that is no donor is below its base share
+  pub no-taker-below-base : (c : Controller) → c ≡ run ks (started tree rates time .state) → (n : ℕ)
+      → has (c .active) n ≡ true → has (c .donors) n ≡ false → baseShare (c .tree) (c .active) n ≤ shareAt c n
+  no-taker-below-base c e = rw e (reached-is-sound ks (start-gives tree rates time) .taker)
+
+  -- where no donation stands, or one has ended, every leaf holds its base share
+  pub no-donation-restores-base : (c : Controller) → c ≡ run ks (started tree rates time .state)
+      → c .donors ≡ none → c .shares ≡ baseShares (c .tree) (c .active)
+  no-donation-restores-base c e = rw e (reached-is-sound ks (start-gives tree rates time) .no-donation)

@@ -1,0 +1,88 @@
+-- What every state keeps that start and the calls give: the one thing that a call may assume of its state.
+-- Assumes nothing.
+use mathlib.Core.Path.{_≡_}
+use mathlib.Core.Bool.{true, false}
+use Prim.Native.Nat.{ℕ, _+_, _*_, _^_, _≤_, _<_}
+use lib.ListN.{length, getD}
+use Rattle.rules.specs.Numbers.{WHOLE, nodesMost, leafMost, queueRoom, shareFloor, costMost, debtMost, vtimeMost, sinceMost, vrateLeast, vrateMost, endMost}
+use Rattle.rules.specs.Words.{sumTo, has, none}
+use Rattle.rules.specs.Units.{abs}
+use Rattle.rules.specs.Cost.{ratesInRange, priced}
+use Rattle.rules.specs.Tree.{leavesOf, baseShare, baseShares, isThin}
+use Rattle.rules.specs.Budget.{rowAt, queueAt, shareAt}
+use Rattle.rules.specs.Laws.Trees.{SoundTree, Within}
+use Rattle.rules.specs.declared.cost.Rates.{Rates}
+use Rattle.rules.specs.declared.cost.Model.{Model}
+use Rattle.rules.specs.declared.budget.Row.{Row}
+use Rattle.rules.specs.declared.budget.Queue.{Queue}
+use Rattle.rules.specs.declared.budget.Clock.{Clock}
+use Rattle.rules.specs.declared.budget.Controller.{Controller}
+
+-- the most that budget x share comes to between two calls: a waiter of the dearest cost that just does not fit
+abbrev pub worthMost : ℕ
+worthMost = 2 ^ 61 + 2 ^ 30
+
+-- "the model priced from valid rates"
+pub record PricedModel (m : Model) : Type 0 where
+  pub rates : Rates
+  pub valid : ratesInRange rates ≡ true
+  pub same : m ≡ priced rates
+
+pub record SoundClock (k : Clock) : Type 0 where
+  pub vrate-least : vrateLeast ≤ k .vrate
+  pub vrate-most : k .vrate ≤ vrateMost
+  pub vtime-most : k .vtime .0 ≤ vtimeMost
+  pub since-most : k .since .0 ≤ sinceMost
+
+pub record SoundQueue (q : Queue) : Type 0 where
+  pub ids-all : length (q .ids) ≡ queueRoom
+  pub costs-all : length (q .costs) ≡ queueRoom
+  pub head-in : q .head < queueRoom
+  pub len-most : q .len ≤ queueRoom
+  pub cost-most : (i : ℕ) → getD (q .costs) i (abs 0) .0 ≤ costMost
+
+pub record SoundRow (r : Row) : Type 0 where
+  pub debt-most : r .debt .0 ≤ debtMost
+  pub end-most : r .end ≤ endMost
+
+-- a leaf that is not active has saved nothing, owes nothing and waits for nothing
+pub record IdleLeaf (r : Row) (q : Queue) : Type 0 where
+  pub no-budget : r .budget .0 ≡ 0
+  pub no-debt : r .debt .0 ≡ 0
+  pub no-waiter : q .len ≡ 0
+
+-- a donor owes nothing and waits for nothing, and holds less than its base share
+pub record FreeDonor (c : Controller) (n : ℕ) : Type 0 where
+  pub active : has (c .active) n ≡ true
+  pub no-debt : rowAt c n .debt .0 ≡ 0
+  pub no-waiter : queueAt c n .len ≡ 0
+  pub gives : shareAt c n < baseShare (c .tree) (c .active) n
+
+pub record Sound (c : Controller) : Type 0 where
+  -- what start was given
+  pub tree : SoundTree (c .tree)
+  pub thick : isThin (c .tree) ≡ false
+  pub leaves : c .leaves ≡ leavesOf (c .tree)
+  pub model : PricedModel (c .model)
+  pub clock : SoundClock (c .clock)
+  -- the sets
+  pub active-fits : c .active < 2 ^ 64
+  pub donors-fit : c .donors < 2 ^ 64
+  pub active : Within (c .tree) (c .active)
+  pub donors : (n : ℕ) → has (c .donors) n ≡ true → FreeDonor c n
+  -- the shares
+  pub shares-all : length (c .shares) ≡ nodesMost
+  pub share-floor : (n : ℕ) → has (c .active) n ≡ true → shareFloor ≤ shareAt c n
+  pub share-idle : (n : ℕ) → has (c .active) n ≡ false → shareAt c n ≡ 0
+  pub share-sum : sumTo (shareAt c) leafMost ≡ sumTo (baseShare (c .tree) (c .active)) leafMost
+  pub taker : (n : ℕ) → has (c .active) n ≡ true → has (c .donors) n ≡ false → baseShare (c .tree) (c .active) n ≤ shareAt c n
+  pub no-donation : c .donors ≡ none → c .shares ≡ baseShares (c .tree) (c .active)
+  -- the books of the leaves
+  pub rows-all : length (c .rows) ≡ nodesMost
+  pub queues-all : length (c .queues) ≡ nodesMost
+  pub row : (n : ℕ) → SoundRow (rowAt c n)
+  pub queue : (n : ℕ) → SoundQueue (queueAt c n)
+  pub idle : (n : ℕ) → has (c .active) n ≡ false → IdleLeaf (rowAt c n) (queueAt c n)
+  pub worth-most : (n : ℕ) → rowAt c n .budget .0 * shareAt c n ≤ worthMost
+  pub usage-most : sumTo (λ n. rowAt c n .usage .0) leafMost * WHOLE + sumTo (λ n. rowAt c n .budget .0 * shareAt c n) leafMost
+      ≤ c .clock .since .0 * WHOLE + leafMost * worthMost

@@ -1,0 +1,182 @@
+-- Laws of the replay's lines: their digits, one by one, and how long they are at most.
+-- Assumes nothing.
+use mathlib.Core.Path.{_≡_, refl, sym, ap, _∙_}
+use mathlib.Core.Bool.{Bool, true, false, cond}
+use mathlib.Core.List.{List, [], _∷_, _++_, append-assoc, append-nil}
+use Prim.Native.Nat.{ℕ, zero, suc, _+_, _-_, _*_, _/_, _%_, _^_, _≤_, _<_}
+use native.Mathlib.Nat.{div-lt-iff-lt-mul, pow-suc}
+use native.Mathlib.Omega.{arith}
+use lib.Dec.{ltb}
+use native.Mathlib.Numerals.{add-one}
+use lib.ListN.{length, take, getD, length-append}
+use lib.Seq.{take-suc}
+use borrow.Author.Tests.{ltb-true, ltb-false, lt-ltb, le-ltb}
+use Rattle.rules.specs.Numbers.{leafMost}
+use Rattle.rules.specs.Words.{joinTo, has}
+use Rattle.rules.specs.Refusals.{number}
+use Rattle.rules.specs.Replay.{digitsIn, digits, line, refusalLine, releaseLines, shareLines}
+use Rattle.rules.specs.declared.budget.Controller.{Controller}
+use Rattle.rules.specs.declared.refusals.Refusal.{Refusal}
+use Rattle.rules.specs.declared.refusals.Refusal.the-variants.{BadTree, ThinTree, BadRate, NoLeaf, BadBio, TooDear, QueueFull, DebtFull, TimeBack, TimeFar, ClockFull, PlanDue, FewPlaces, NothingPassed, BadVrate, UnknownKind, CutShort, WrongPhase, ShortBuffer}
+
+-- ---- digits
+digits-in-none : (n : ℕ) → digitsIn 0 n ≡ []
+unfolding digitsIn
+digits-in-none n = refl
+
+digits-in-short : (more n : ℕ) → n < 10 → digitsIn (suc more) n ≡ (48 + n) ∷ []
+unfolding digitsIn
+digits-in-short more n h = rw (lt-ltb n 10 h)
+
+digits-in-long : (more n : ℕ) → 10 ≤ n → digitsIn (suc more) n ≡ digitsIn more (n / 10) ++ ((48 + n % 10) ∷ [])
+unfolding digitsIn
+digits-in-long more n h = rw (le-ltb n 10 h)
+
+tenth-below : (k n : ℕ) → n < 10 ^ suc k → n / 10 < 10 ^ k
+tenth-below k n h = let ten : 0 < 10 = omega arith in div-lt-iff-lt-mul ten .1 (rw pow-suc at h)
+
+-- a place more changes nothing of a number that has room
+digits-in-room : (k n : ℕ) → n < 10 ^ suc k → digitsIn (suc (suc k)) n ≡ digitsIn (suc k) n
+digits-in-room zero n h = digits-in-short 1 n (omega arith) ∙ sym (digits-in-short 0 n (omega arith))
+digits-in-room (suc k) n h = go (ltb n 10) refl (digits-in-room k (n / 10) (tenth-below (suc k) n h))
+  where
+    go : (b : Bool) → ltb n 10 ≡ b → digitsIn (suc (suc k)) (n / 10) ≡ digitsIn (suc k) (n / 10)
+        → digitsIn (suc (suc (suc k))) n ≡ digitsIn (suc (suc k)) n
+    go true e same = digits-in-short (suc (suc k)) n (ltb-true n 10 e) ∙ sym (digits-in-short (suc k) n (ltb-true n 10 e))
+    go false e same =
+        rw (digits-in-long (suc (suc k)) n (ltb-false n 10 e), digits-in-long (suc k) n (ltb-false n 10 e), same)
+
+-- a number of k digits has no more
+digits-in-most : (more k n : ℕ) → n < 10 ^ suc k → length (digitsIn more n) ≤ suc k
+digits-in-most zero k n h = rw digits-in-none (omega arith)
+digits-in-most (suc more) zero n h = rw (digits-in-short more n (omega arith)) (omega arith)
+digits-in-most (suc more) (suc k) n h = go (ltb n 10) refl (digits-in-most more k (n / 10) (tenth-below (suc k) n h))
+  where
+    go : (b : Bool) → ltb n 10 ≡ b → length (digitsIn more (n / 10)) ≤ suc k → length (digitsIn (suc more) n) ≤ suc (suc k)
+    go true e less = rw (digits-in-short more n (ltb-true n 10 e)) (omega arith)
+    go false e less = rw (digits-in-long more n (ltb-false n 10 e), length-append) (omega arith)
+
+pub digits-short : (n : ℕ) → n < 10 → digits n ≡ (48 + n) ∷ []
+unfolding digits
+digits-short n h = digits-in-short 19 n h
+
+pub digits-long : (n : ℕ) → 10 ≤ n → n < 2 ^ 64 → digits n ≡ digits (n / 10) ++ ((48 + n % 10) ∷ [])
+unfolding digits
+digits-long n h f = rw (digits-in-long 19 n h, digits-in-room 18 (n / 10) (omega arith))
+
+pub digits-most : (k n : ℕ) → n < 10 ^ suc k → length (digits n) ≤ suc k
+unfolding digits
+digits-most k n h = digits-in-most 20 k n h
+
+pub digits-least : (n : ℕ) → n < 2 ^ 64 → 0 < length (digits n)
+digits-least n f = go (ltb n 10) refl
+  where
+    go : (b : Bool) → ltb n 10 ≡ b → 0 < length (digits n)
+    go true e = rw (digits-short n (ltb-true n 10 e)) (omega arith)
+    go false e = rw (digits-long n (ltb-false n 10 e) f, length-append) (omega arith)
+
+-- ---- a line, written from its letter on
+pub line-one : (letter a : ℕ) → line letter (a ∷ []) ≡ ((letter ∷ []) ++ (32 ∷ digits a)) ++ (10 ∷ [])
+unfolding line
+line-one letter a = ap (λ (l : List ℕ). letter ∷ 32 ∷ (l ++ (10 ∷ []))) (append-nil (digits a))
+
+pub line-two : (letter a b : ℕ) → line letter (a ∷ b ∷ []) ≡ (((letter ∷ []) ++ (32 ∷ digits a)) ++ (32 ∷ digits b)) ++ (10 ∷ [])
+unfolding line
+line-two letter a b = ap (λ (l : List ℕ). letter ∷ 32 ∷ (digits a ++ (32 ∷ l) ++ (10 ∷ []))) (append-nil (digits b))
+
+pub line-one-length : (letter a : ℕ) → length (line letter (a ∷ [])) ≡ length (digits a) + 3
+line-one-length letter a = rw line-one (simp length-append (omega arith))
+
+pub line-two-length : (letter a b : ℕ) → length (line letter (a ∷ b ∷ [])) ≡ length (digits a) + length (digits b) + 4
+line-two-length letter a b = rw line-two (simp length-append (omega arith))
+
+-- the lines I, W, D and r of an id
+pub id-line-most : (letter id : ℕ) → id < 2 ^ 32 → length (line letter (id ∷ [])) ≤ 13
+id-line-most letter id h = omega (arith, line-one-length letter id, digits-most 9 id (omega arith))
+
+-- the line P of a node and its share
+pub share-line-most : (n share : ℕ) → n < 100 → share < 2 ^ 32 → length (line 80 (n ∷ share ∷ [])) ≤ 16
+share-line-most n share h f =
+    omega (arith, line-two-length 80 n share, digits-most 1 n (omega arith), digits-most 9 share (omega arith))
+
+number-most : (x : Refusal) → number x < 100
+number-most (BadTree f) = omega arith
+number-most ThinTree = omega arith
+number-most BadRate = omega arith
+number-most NoLeaf = omega arith
+number-most BadBio = omega arith
+number-most TooDear = omega arith
+number-most QueueFull = omega arith
+number-most DebtFull = omega arith
+number-most TimeBack = omega arith
+number-most TimeFar = omega arith
+number-most ClockFull = omega arith
+number-most PlanDue = omega arith
+number-most FewPlaces = omega arith
+number-most NothingPassed = omega arith
+number-most BadVrate = omega arith
+number-most UnknownKind = omega arith
+number-most CutShort = omega arith
+number-most WrongPhase = omega arith
+number-most ShortBuffer = omega arith
+
+pub refusal-line-most : (x : Refusal) → length (refusalLine x) ≤ 5
+unfolding refusalLine
+refusal-line-most x = omega (arith, line-one-length 82 (number x), digits-most 1 (number x) (number-most x))
+
+-- ---- releases, one after the other
+pub releases-append : (a b : List ℕ) → releaseLines (a ++ b) ≡ releaseLines a ++ releaseLines b
+releases-append [] b = refl
+releases-append (id ∷ a) b = rw (releases-append a b, append-assoc)
+
+pub releases-next : (ids : List ℕ) (i : ℕ) → i < length ids
+    → releaseLines (take (i + 1) ids) ≡ releaseLines (take i ids) ++ line 114 (getD ids i 0 ∷ [])
+releases-next ids i h = rw (add-one i, take-suc ids i 0 h, releases-append, append-nil)
+
+pub releases-most : (ids : List ℕ) → ((i : ℕ) → getD ids i 0 < 2 ^ 32) → length (releaseLines ids) ≤ 13 * length ids
+releases-most [] h = omega arith
+releases-most (id ∷ ids) h = rw length-append (omega (arith, id-line-most 114 id (h 0), releases-most ids (λ i. h (suc i))))
+
+-- ---- the shares of the active leaves, by rising number
+abbrev pub leafLine : ℕ → ℕ → ℕ → List ℕ
+leafLine active n share = cond (has active n) (line 80 (n ∷ share ∷ [])) []
+
+-- of the leaves up to m
+unfoldable pub shareLinesTo : ℕ → List ℕ → ℕ → List ℕ
+shareLinesTo active shares m = joinTo (λ n. leafLine active n (getD shares n 0)) m
+
+abbrev pub shareLinesOf : ℕ → List ℕ → List ℕ
+shareLinesOf active shares = shareLinesTo active shares leafMost
+
+-- a state's lines are those of its active set and its shares
+pub share-lines : (c : Controller) → shareLines c ≡ shareLinesOf (c .active) (c .shares)
+unfolding shareLines shareLinesTo
+share-lines c = refl
+
+pub leaf-line-most : (active n share : ℕ) → n < 100 → share < 2 ^ 32 → length (leafLine active n share) ≤ 16
+leaf-line-most active n share h f = go (has active n)
+  where
+    go : (b : Bool) → length (cond b (line 80 (n ∷ share ∷ [])) []) ≤ 16
+    go true = share-line-most n share h f
+    go false = omega arith
+
+module _ (active : ℕ) (shares : List ℕ) where
+  pub shares-none : shareLinesTo active shares 0 ≡ []
+  unfolding shareLinesTo joinTo
+  shares-none = refl
+
+  shares-up : (m : ℕ) → shareLinesTo active shares (suc m) ≡ shareLinesTo active shares m ++ leafLine active (suc m) (getD shares (suc m) 0)
+  unfolding shareLinesTo joinTo
+  shares-up m = refl
+
+  pub shares-next : (n : ℕ) → 0 < n → shareLinesTo active shares (n + 1 - 1) ≡ shareLinesTo active shares (n - 1) ++ leafLine active n (getD shares n 0)
+  shares-next n h =
+      let e : suc (n - 1) ≡ n = omega arith in
+      let f : n + 1 - 1 ≡ n = omega arith in
+      ap (shareLinesTo active shares) f ∙ rw e at (shares-up (n - 1))
+
+  pub shares-most : ((i : ℕ) → getD shares i 0 < 2 ^ 32) → (m : ℕ) → m < 100 → length (shareLinesTo active shares m) ≤ 16 * m
+  shares-most f zero h = rw shares-none (omega arith)
+  shares-most f (suc m) h =
+      rw (shares-up m, length-append)
+      (omega (arith, shares-most f m (omega arith), leaf-line-most active (suc m) (getD shares (suc m) 0) h (f (suc m))))

@@ -1,0 +1,77 @@
+-- What an accepted call has passed: each of its checks, as a fact on numbers.
+-- Assumes nothing.
+use mathlib.Core.Path.{_≡_, refl}
+use mathlib.Core.Bool.{Bool, true, false, cond}
+use Prim.Native.Nat.{ℕ, _+_, _≤_}
+use native.Mathlib.Omega.{arith}
+use borrow.Author.Tests.{ltb-false, not-false}
+use Rattle.rules.specs.Numbers.{elapsedMost, vtimeMost, sinceMost, vrateLeast, vrateMost}
+use Rattle.rules.specs.Cost.{ratesInRange}
+use Rattle.rules.specs.Tree.{treeFault, isThin}
+use Rattle.rules.specs.Tick.{growth, waitingAll}
+use Rattle.rules.specs.Plan.{vrateInRange}
+use Rattle.rules.specs.Refusals.{firstOf, isFault, treeChecks, rateChecks, startChecks, tickChecks, vrateChecks}
+use Rattle.rules.specs.Laws.Bools.{between}
+use Rattle.rules.specs.declared.cost.Rates.{Rates}
+use Rattle.rules.specs.declared.tree.Tree.{Tree}
+use Rattle.rules.specs.declared.tree.Fault.{Fault}
+use Rattle.rules.specs.declared.tree.Fault.the-variants.{Sound, Count, Parent, Weight, Level}
+use Rattle.rules.specs.declared.budget.Controller.{Controller}
+use Rattle.rules.specs.declared.refusals.Refusal.{Refusal}
+use Rattle.rules.specs.declared.refusals.Verdict.{Verdict}
+use Rattle.rules.specs.declared.refusals.Verdict.the-variants.{Accepted, Refused}
+
+-- a check that would have refused did not hold
+pub check-passed : (b : Bool) (x : Refusal) (v : Verdict) → cond b (Refused x) v ≡ Accepted → (b ≡ false) × (v ≡ Accepted)
+check-passed true x v e = let z : _≡_ {A = ℕ} 0 1 = cc in absurd (omega arith)
+check-passed false x v e = (refl, e)
+
+-- ---- a tick
+pub record TickPasses (time places : ℕ) (c : Controller) : Type 0 where
+  pub forward : c .clock .time ≤ time
+  pub near : time ≤ c .clock .time + elapsedMost
+  pub vtime : c .clock .vtime .0 + growth (c .clock) time .0 ≤ vtimeMost
+  pub since : c .clock .since .0 + growth (c .clock) time .0 ≤ sinceMost
+  pub room : waitingAll c ≤ places
+
+pub tick-passes : (time places : ℕ) (c : Controller) → firstOf (tickChecks time places c) ≡ Accepted → TickPasses time places c
+unfolding tickChecks
+tick-passes time places c e =
+    let a = check-passed _ _ _ e in
+    let b = check-passed _ _ _ (a .1) in
+    let d = check-passed _ _ _ (b .1) in
+    let f = check-passed _ _ _ (d .1) in
+    let h = check-passed _ _ _ (f .1) in
+    record {
+      forward = ltb-false _ _ (a .0);
+      near = ltb-false _ _ (b .0);
+      vtime = ltb-false _ _ (d .0);
+      since = ltb-false _ _ (f .0);
+      room = ltb-false _ _ (h .0);
+    }
+
+-- ---- vrate
+pub vrate-passes : (v : ℕ) → firstOf (vrateChecks v) ≡ Accepted → (vrateLeast ≤ v) × (v ≤ vrateMost)
+unfolding vrateChecks vrateInRange
+vrate-passes v e = between vrateLeast v vrateMost .0 (not-false _ (check-passed _ _ _ e .0))
+
+-- ---- start
+pub record StartPasses (t : Tree) (r : Rates) : Type 0 where
+  pub tree : treeFault t ≡ Sound
+  pub thick : isThin t ≡ false
+  pub rates : ratesInRange r ≡ true
+
+no-fault : (f : Fault) → isFault f ≡ false → f ≡ Sound
+no-fault Sound e = refl
+no-fault Count e = let z : _≡_ {A = ℕ} 0 1 = cc in absurd (omega arith)
+no-fault (Parent n) e = let z : _≡_ {A = ℕ} 0 1 = cc in absurd (omega arith)
+no-fault (Weight n) e = let z : _≡_ {A = ℕ} 0 1 = cc in absurd (omega arith)
+no-fault (Level n) e = let z : _≡_ {A = ℕ} 0 1 = cc in absurd (omega arith)
+
+pub start-passes : (t : Tree) (r : Rates) → firstOf (startChecks t r) ≡ Accepted → StartPasses t r
+unfolding startChecks treeChecks rateChecks
+start-passes t r e =
+    let a = check-passed _ _ _ e in
+    let b = check-passed _ _ _ (a .1) in
+    let d = check-passed _ _ _ (b .1) in
+    record { tree = no-fault (treeFault t) (a .0); thick = b .0; rates = not-false _ (d .0) }

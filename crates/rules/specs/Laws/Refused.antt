@@ -1,0 +1,349 @@
+-- Demand 1 in a customer's words: when each refusal of each entry is given, and that a refusal changes nothing.
+-- Assumes nothing.
+use mathlib.Core.Path.{_≡_, refl, ap}
+use mathlib.Core.Logic.{_↔_}
+use mathlib.Core.Bool.{Bool, true, false, cond, not, _&&_}
+use mathlib.Core.List.{List, [], _∷_}
+use Prim.Native.Nat.{ℕ, _+_, _≤_, _<_}
+use native.Mathlib.Omega.{arith}
+use lib.Dec.{eqb, leb, ltb}
+use lib.ListN.{length}
+use borrow.Author.Tests.{ltb-true, ltb-false, lt-ltb, le-ltb, eqb-true, eq-eqb, not-true, not-false}
+use Rattle.rules.specs.Numbers.{queueRoom, costMost, debtMost, elapsedMost, vtimeMost, sinceMost, vrateLeast, vrateMost}
+use Rattle.rules.specs.Cost.{ratesInRange, bioInRange, isForced}
+use Rattle.rules.specs.Tree.{isLeaf, treeFault, isThin}
+use Rattle.rules.specs.Budget.{fresh, rowAt, queueAt, answerIn, submission}
+use Rattle.rules.specs.Tick.{growth, waitingAll}
+use Rattle.rules.specs.Plan.{vrateInRange}
+use Rattle.rules.specs.Refusals.{Check, _⇒_, firstOf, isFault, isWait, isDebt, wouldBe, costChecks, roomChecks, submitChecks, tickChecks, planChecks, vrateChecks, treeChecks, rateChecks, startChecks}
+use Rattle.rules.specs.Entries.{submittedBy, submitted, tickedBy, ticked, lentBy, lentOf, plannedBy, planned, vratedBy, vrated, startedBy, started, noTree, slowestModel}
+use Rattle.rules.specs.Laws.Bools.{true-not-false, exactly, exactly-both, exactly-not, at-most, between}
+use Rattle.rules.specs.Laws.Costs.{BioInRange, bio-in-range, RatesInRange, rates-in-range}
+use Rattle.rules.specs.Laws.Answers.{answer-is-no-refusal}
+use Rattle.rules.specs.Laws.Verdicts.{lacks, accepted-is-not-refused, not-given, given-exactly-when}
+use Rattle.rules.specs.Laws.Submits.{costIn}
+use Rattle.rules.specs.declared.cost.Rates.{Rates}
+use Rattle.rules.specs.declared.cost.Bio.{Bio}
+use Rattle.rules.specs.declared.tree.Tree.{Tree}
+use Rattle.rules.specs.declared.tree.Fault.{Fault}
+use Rattle.rules.specs.declared.tree.Fault.the-variants.{Sound as NoFault, Count, Parent, Weight, Level}
+use Rattle.rules.specs.declared.budget.Controller.{Controller}
+use Rattle.rules.specs.declared.refusals.Refusal.{Refusal}
+use Rattle.rules.specs.declared.refusals.Refusal.the-variants.{BadTree, ThinTree, BadRate, NoLeaf, BadBio, TooDear, QueueFull, DebtFull, TimeBack, TimeFar, ClockFull, PlanDue, FewPlaces, NothingPassed, BadVrate}
+use Rattle.rules.specs.declared.refusals.Verdict.{Verdict}
+use Rattle.rules.specs.declared.refusals.Verdict.the-variants.{Accepted, Refused}
+use Rattle.rules.specs.declared.refusals.Answer.{Answer}
+use Rattle.rules.specs.declared.refusals.Answer.the-variants.{Issued, Waits, OnDebt, Refused as Declined}
+use Rattle.rules.specs.declared.refusals.Count.the-variants.{Refused as Unticked}
+
+-- ---- the refusals of a submission
+pub submit-refuses-exactly-when : (b : Bio) (c : Controller) (x : Refusal) → (submitted b c .answer ≡ Declined x) ↔ (firstOf (submitChecks b c) ≡ Refused x)
+unfolding submitted submittedBy submission answerIn
+submit-refuses-exactly-when b c x = go (firstOf (submitChecks b c))
+  where
+    go : (v : Verdict) → (submittedBy v b c .answer ≡ Declined x) ↔ (v ≡ Refused x)
+    go Accepted = (λ e. absurd (answer-is-no-refusal _ _ _ _ (isForced b) x e), λ e. absurd (accepted-is-not-refused x e))
+    go (Refused y) = (λ e. cc, λ e. cc)
+
+not-test : (t : Bool) → (not t ≡ false) ↔ (t ≡ true)
+not-test t = (not-false t, λ e. rw e)
+
+above-test : (a b : ℕ) → (ltb a b ≡ true) ↔ (a < b)
+above-test a b = (ltb-true a b, lt-ltb a b)
+
+wait-test : (a : Answer) → (isWait a ≡ true) ↔ (a ≡ Waits)
+wait-test Issued = (λ e. absurd (true-not-false e refl), λ e. absurd (let z : _≡_ {A = ℕ} 0 1 = cc in omega arith))
+wait-test Waits = (λ e. refl, λ e. refl)
+wait-test OnDebt = (λ e. absurd (true-not-false e refl), λ e. absurd (let z : _≡_ {A = ℕ} 0 1 = cc in omega arith))
+wait-test (Declined x) = (λ e. absurd (true-not-false e refl), λ e. absurd (let z : _≡_ {A = ℕ} 0 1 = cc in omega arith))
+
+debt-test : (a : Answer) → (isDebt a ≡ true) ↔ (a ≡ OnDebt)
+debt-test Issued = (λ e. absurd (true-not-false e refl), λ e. absurd (let z : _≡_ {A = ℕ} 0 1 = cc in omega arith))
+debt-test Waits = (λ e. absurd (true-not-false e refl), λ e. absurd (let z : _≡_ {A = ℕ} 0 1 = cc in omega arith))
+debt-test OnDebt = (λ e. refl, λ e. refl)
+debt-test (Declined x) = (λ e. absurd (true-not-false e refl), λ e. absurd (let z : _≡_ {A = ℕ} 0 1 = cc in omega arith))
+
+-- an answer that is a debt is no wait
+debt-no-wait : (a : Answer) (len : ℕ) → a ≡ OnDebt → (isWait a && leb queueRoom len) ≡ false
+debt-no-wait a len e = rw e
+
+module _ (b : Bio) (c : Controller) where
+  -- the five checks, in the table's order
+  noLeaf : Check
+  noLeaf = not (isLeaf (c .tree) (b .node)) ⇒ NoLeaf
+
+  badBio : Check
+  badBio = not (bioInRange b) ⇒ BadBio
+
+  tooDear : Check
+  tooDear = ltb costMost (costIn c b .0) ⇒ TooDear
+
+  queueFull : Check
+  queueFull = isWait (wouldBe c b) && leb queueRoom (queueAt c (b .node) .len) ⇒ QueueFull
+
+  debtFull : Check
+  debtFull = isDebt (wouldBe c b) && ltb debtMost (rowAt c (b .node) .debt .0 + costIn c b .0) ⇒ DebtFull
+
+  pub refusal-4-exactly-when : (submitted b c .answer ≡ Declined NoLeaf) ↔ (isLeaf (c .tree) (b .node) ≡ false)
+  unfolding submitChecks costChecks roomChecks noLeaf badBio tooDear queueFull debtFull
+  refusal-4-exactly-when =
+      let g = given-exactly-when [] (noLeaf .holds) NoLeaf (badBio ∷ tooDear ∷ queueFull ∷ debtFull ∷ []) refl refl in
+      exactly (submit-refuses-exactly-when b c NoLeaf) (exactly g (λ w. not-true _ (w .1), λ e. (tt, rw e)))
+
+  pub refusal-5-exactly-when : (submitted b c .answer ≡ Declined BadBio) ↔ ((isLeaf (c .tree) (b .node) ≡ true) × (BioInRange b → ⊥))
+  unfolding submitChecks costChecks roomChecks noLeaf badBio tooDear queueFull debtFull
+  refusal-5-exactly-when =
+      let g = given-exactly-when (noLeaf ∷ []) (badBio .holds) BadBio (tooDear ∷ queueFull ∷ debtFull ∷ []) refl refl in
+      let out = exactly-not (bioInRange b) (bio-in-range b) in
+      exactly (submit-refuses-exactly-when b c BadBio) (exactly g (
+        λ w. (not-false _ (w .0 .0), out .0 (not-true _ (w .1))),
+        λ w. ((not-test _ .1 (w .0), tt), rw (out .1 (w .1))),
+      ))
+
+  pub refusal-6-exactly-when : (submitted b c .answer ≡ Declined TooDear)
+      ↔ ((isLeaf (c .tree) (b .node) ≡ true) × BioInRange b × (costMost < costIn c b .0))
+  unfolding submitChecks costChecks roomChecks noLeaf badBio tooDear queueFull debtFull
+  refusal-6-exactly-when =
+      let g = given-exactly-when (noLeaf ∷ badBio ∷ []) (tooDear .holds) TooDear (queueFull ∷ debtFull ∷ []) refl refl in
+      exactly (submit-refuses-exactly-when b c TooDear) (exactly g (
+        λ w. (not-false _ (w .0 .0), bio-in-range b .0 (not-false _ (w .0 .1 .0)), ltb-true _ _ (w .1)),
+        λ w. ((not-test _ .1 (w .0), (not-test _ .1 (bio-in-range b .1 (w .1)), tt)), lt-ltb _ _ (w .2)),
+      ))
+
+  pub refusal-7-exactly-when : (submitted b c .answer ≡ Declined QueueFull)
+      ↔ ((isLeaf (c .tree) (b .node) ≡ true) × BioInRange b × (costIn c b .0 ≤ costMost) × (wouldBe c b ≡ Waits) × (queueRoom ≤ queueAt c (b .node) .len))
+  unfolding submitChecks costChecks roomChecks noLeaf badBio tooDear queueFull debtFull
+  refusal-7-exactly-when =
+      let g = given-exactly-when (noLeaf ∷ badBio ∷ tooDear ∷ []) (queueFull .holds) QueueFull (debtFull ∷ []) refl refl in
+      let full = exactly-both _ _ (wait-test (wouldBe c b)) (at-most queueRoom (queueAt c (b .node) .len)) in
+      exactly (submit-refuses-exactly-when b c QueueFull) (exactly g (
+        λ w. (
+          not-false _ (w .0 .0),
+          bio-in-range b .0 (not-false _ (w .0 .1 .0)),
+          ltb-false _ _ (w .0 .1 .1 .0),
+          full .0 (w .1) .0,
+          full .0 (w .1) .1,
+        ),
+        λ w. (
+          (not-test _ .1 (w .0), (not-test _ .1 (bio-in-range b .1 (w .1)), (le-ltb _ _ (w .2), tt))),
+          full .1 (w .3, w .4),
+        ),
+      ))
+
+  pub refusal-8-exactly-when : (submitted b c .answer ≡ Declined DebtFull)
+      ↔ ((isLeaf (c .tree) (b .node) ≡ true) × BioInRange b × (costIn c b .0 ≤ costMost) × (wouldBe c b ≡ OnDebt)
+      × (debtMost < rowAt c (b .node) .debt .0 + costIn c b .0))
+  unfolding submitChecks costChecks roomChecks noLeaf badBio tooDear queueFull debtFull
+  refusal-8-exactly-when =
+      let g = given-exactly-when (noLeaf ∷ badBio ∷ tooDear ∷ queueFull ∷ []) (debtFull .holds) DebtFull [] refl refl in
+      let full = exactly-both _ _ (debt-test (wouldBe c b)) (above-test debtMost (rowAt c (b .node) .debt .0 + costIn c b .0)) in
+      exactly (submit-refuses-exactly-when b c DebtFull) (exactly g (
+        λ w. (
+          not-false _ (w .0 .0),
+          bio-in-range b .0 (not-false _ (w .0 .1 .0)),
+          ltb-false _ _ (w .0 .1 .1 .0),
+          full .0 (w .1) .0,
+          full .0 (w .1) .1,
+        ),
+        λ w. (
+          (not-test _ .1 (w .0), (not-test _ .1 (bio-in-range b .1 (w .1)), (le-ltb _ _ (w .2), (debt-no-wait (wouldBe c b) (queueAt c (b .node) .len) (w .3), tt)))),
+          full .1 (w .3, w .4),
+        ),
+      ))
+
+-- ---- the refusals of a tick
+pub tick-refuses-exactly-when : (time : ℕ) (lent : List ℕ) (c : Controller) (x : Refusal)
+    → (ticked time lent c .answer ≡ Unticked x) ↔ (firstOf (tickChecks time (length lent) c) ≡ Refused x)
+unfolding ticked tickedBy
+tick-refuses-exactly-when time lent c x = go (firstOf (tickChecks time (length lent) c))
+  where
+    go : (v : Verdict) → (tickedBy v time c .answer ≡ Unticked x) ↔ (v ≡ Refused x)
+    go Accepted = (λ e. absurd (let z : _≡_ {A = ℕ} 0 1 = cc in omega arith), λ e. absurd (accepted-is-not-refused x e))
+    go (Refused y) = (λ e. cc, λ e. cc)
+
+module _ (time : ℕ) (lent : List ℕ) (c : Controller) where
+  -- "Time earlier than the last accepted", and the four below it
+  timeBack : Check
+  timeBack = ltb time (c .clock .time) ⇒ TimeBack
+
+  timeFar : Check
+  timeFar = ltb (c .clock .time + elapsedMost) time ⇒ TimeFar
+
+  clockFull : Check
+  clockFull = ltb vtimeMost (c .clock .vtime .0 + growth (c .clock) time .0) ⇒ ClockFull
+
+  planDue : Check
+  planDue = ltb sinceMost (c .clock .since .0 + growth (c .clock) time .0) ⇒ PlanDue
+
+  fewPlaces : Check
+  fewPlaces = ltb (length lent) (waitingAll c) ⇒ FewPlaces
+
+  pub refusal-9-exactly-when : (ticked time lent c .answer ≡ Unticked TimeBack) ↔ (time < c .clock .time)
+  unfolding tickChecks timeBack timeFar clockFull planDue fewPlaces
+  refusal-9-exactly-when =
+      let g = given-exactly-when [] (timeBack .holds) TimeBack (timeFar ∷ clockFull ∷ planDue ∷ fewPlaces ∷ []) refl refl in
+      exactly (tick-refuses-exactly-when time lent c TimeBack) (exactly g (λ w. ltb-true _ _ (w .1), λ w. (tt, lt-ltb _ _ w)))
+
+  pub refusal-10-exactly-when : (ticked time lent c .answer ≡ Unticked TimeFar) ↔ (c .clock .time + elapsedMost < time)
+  unfolding tickChecks timeBack timeFar clockFull planDue fewPlaces
+  refusal-10-exactly-when =
+      let g = given-exactly-when (timeBack ∷ []) (timeFar .holds) TimeFar (clockFull ∷ planDue ∷ fewPlaces ∷ []) refl refl in
+      exactly (tick-refuses-exactly-when time lent c TimeFar)
+      (exactly g (λ w. ltb-true _ _ (w .1), λ w. ((le-ltb time (c .clock .time) (omega arith), tt), lt-ltb _ _ w)))
+
+  -- the time is neither earlier nor too far
+  pub record TimeFits : Type 0 where
+    pub not-back : c .clock .time ≤ time
+    pub not-far : time ≤ c .clock .time + elapsedMost
+
+  pub refusal-11-exactly-when : (ticked time lent c .answer ≡ Unticked ClockFull) ↔ (TimeFits × (vtimeMost < c .clock .vtime .0 + growth (c .clock) time .0))
+  unfolding tickChecks timeBack timeFar clockFull planDue fewPlaces
+  refusal-11-exactly-when =
+      let g = given-exactly-when (timeBack ∷ timeFar ∷ []) (clockFull .holds) ClockFull (planDue ∷ fewPlaces ∷ []) refl refl in
+      exactly (tick-refuses-exactly-when time lent c ClockFull) (exactly g (
+        λ w. (record { not-back = ltb-false _ _ (w .0 .0); not-far = ltb-false _ _ (w .0 .1 .0) }, ltb-true _ _ (w .1)),
+        λ w. ((le-ltb _ _ (w .0 .not-back), (le-ltb _ _ (w .0 .not-far), tt)), lt-ltb _ _ (w .1)),
+      ))
+
+  pub refusal-12-exactly-when : (ticked time lent c .answer ≡ Unticked PlanDue)
+      ↔ (TimeFits × (c .clock .vtime .0 + growth (c .clock) time .0 ≤ vtimeMost) × (sinceMost < c .clock .since .0 + growth (c .clock) time .0))
+  unfolding tickChecks timeBack timeFar clockFull planDue fewPlaces
+  refusal-12-exactly-when =
+      let g = given-exactly-when (timeBack ∷ timeFar ∷ clockFull ∷ []) (planDue .holds) PlanDue (fewPlaces ∷ []) refl refl in
+      exactly (tick-refuses-exactly-when time lent c PlanDue) (exactly g (
+        λ w. (
+          record { not-back = ltb-false _ _ (w .0 .0); not-far = ltb-false _ _ (w .0 .1 .0) },
+          ltb-false _ _ (w .0 .1 .1 .0),
+          ltb-true _ _ (w .1),
+        ),
+        λ w. ((le-ltb _ _ (w .0 .not-back), (le-ltb _ _ (w .0 .not-far), (le-ltb _ _ (w .1), tt))), lt-ltb _ _ (w .2)),
+      ))
+
+  pub refusal-13-exactly-when : (ticked time lent c .answer ≡ Unticked FewPlaces)
+      ↔ (TimeFits × (c .clock .vtime .0 + growth (c .clock) time .0 ≤ vtimeMost) × (c .clock .since .0 + growth (c .clock) time .0 ≤ sinceMost)
+      × (length lent < waitingAll c))
+  unfolding tickChecks timeBack timeFar clockFull planDue fewPlaces
+  refusal-13-exactly-when =
+      let g = given-exactly-when (timeBack ∷ timeFar ∷ clockFull ∷ planDue ∷ []) (fewPlaces .holds) FewPlaces [] refl refl in
+      exactly (tick-refuses-exactly-when time lent c FewPlaces) (exactly g (
+        λ w. (
+          record { not-back = ltb-false _ _ (w .0 .0); not-far = ltb-false _ _ (w .0 .1 .0) },
+          ltb-false _ _ (w .0 .1 .1 .0),
+          ltb-false _ _ (w .0 .1 .1 .1 .0),
+          ltb-true _ _ (w .1),
+        ),
+        λ w. (
+          (le-ltb _ _ (w .0 .not-back), (le-ltb _ _ (w .0 .not-far), (le-ltb _ _ (w .1), (le-ltb _ _ (w .2), tt)))),
+          lt-ltb _ _ (w .3),
+        ),
+      ))
+
+-- ---- the refusals of a plan and of vrate
+pub plan-refuses : (c : Controller) (x : Refusal) → (planned c .answer ≡ Refused x) ↔ (firstOf (planChecks c) ≡ Refused x)
+unfolding planned plannedBy
+plan-refuses c x = go (firstOf (planChecks c))
+  where
+    go : (v : Verdict) → (plannedBy v c .answer ≡ Refused x) ↔ (v ≡ Refused x)
+    go Accepted = (λ e. e, λ e. e)
+    go (Refused y) = (λ e. e, λ e. e)
+
+pub refusal-14-exactly-when : (c : Controller) → (planned c .answer ≡ Refused NothingPassed) ↔ (c .clock .since .0 ≡ 0)
+unfolding planChecks
+refusal-14-exactly-when c =
+    exactly (plan-refuses c NothingPassed)
+    (exactly (given-exactly-when [] (eqb (c .clock .since .0) 0) NothingPassed [] refl refl) (λ w. eqb-true _ _ (w .1), λ w. (tt, eq-eqb _ _ w)))
+
+vrate-refuses : (v : ℕ) (c : Controller) (x : Refusal) → (vrated v c .answer ≡ Refused x) ↔ (firstOf (vrateChecks v) ≡ Refused x)
+unfolding vrated vratedBy
+vrate-refuses v c x = go (firstOf (vrateChecks v))
+  where
+    go : (t : Verdict) → (vratedBy t v c .answer ≡ Refused x) ↔ (t ≡ Refused x)
+    go Accepted = (λ e. e, λ e. e)
+    go (Refused y) = (λ e. e, λ e. e)
+
+pub refusal-15-exactly-when : (v : ℕ) (c : Controller) → (vrated v c .answer ≡ Refused BadVrate) ↔ ((vrateLeast ≤ v) × (v ≤ vrateMost) → ⊥)
+unfolding vrateChecks vrateInRange
+refusal-15-exactly-when v c =
+    let out = exactly-not (leb vrateLeast v && leb v vrateMost) (between vrateLeast v vrateMost) in
+    exactly (vrate-refuses v c BadVrate)
+    (exactly (given-exactly-when [] (not (leb vrateLeast v && leb v vrateMost)) BadVrate [] refl refl)
+    (λ w. out .0 (not-true _ (w .1)), λ w. (tt, rw (out .1 w))))
+
+-- ---- the refusals of start
+start-refuses : (t : Tree) (r : Rates) (time : ℕ) (x : Refusal) → (started t r time .answer ≡ Refused x) ↔ (firstOf (startChecks t r) ≡ Refused x)
+unfolding started startedBy
+start-refuses t r time x = go (firstOf (startChecks t r))
+  where
+    go : (v : Verdict) → (startedBy v t r time .answer ≡ Refused x) ↔ (v ≡ Refused x)
+    go Accepted = (λ e. e, λ e. e)
+    go (Refused y) = (λ e. e, λ e. e)
+
+fault-test : (f : Fault) → (isFault f ≡ false) ↔ (f ≡ NoFault)
+fault-test NoFault = (λ e. refl, λ e. refl)
+fault-test Count = (λ e. absurd (true-not-false refl e), λ e. absurd (let z : _≡_ {A = ℕ} 0 1 = cc in omega arith))
+fault-test (Parent n) = (λ e. absurd (true-not-false refl e), λ e. absurd (let z : _≡_ {A = ℕ} 0 1 = cc in omega arith))
+fault-test (Weight n) = (λ e. absurd (true-not-false refl e), λ e. absurd (let z : _≡_ {A = ℕ} 0 1 = cc in omega arith))
+fault-test (Level n) = (λ e. absurd (true-not-false refl e), λ e. absurd (let z : _≡_ {A = ℕ} 0 1 = cc in omega arith))
+
+fault-given : (f g : Fault) (rest : List Check) → lacks 1 rest ≡ true
+    → (firstOf ((isFault g ⇒ BadTree g) ∷ rest) ≡ Refused (BadTree f)) ↔ ((g ≡ f) × (isFault f ≡ true))
+fault-given f g rest l = go (isFault g) refl
+  where
+    go : (b : Bool) → isFault g ≡ b → (cond b (Refused (BadTree g)) (firstOf rest) ≡ Refused (BadTree f)) ↔ ((g ≡ f) × (isFault f ≡ true))
+    go true h = (λ e. let i : g ≡ f = cc in (i, rw i at h), λ w. ap (λ (k : Fault). Refused (BadTree k)) (w .0))
+    go false h = (λ e. absurd (not-given (BadTree f) rest l e), λ w. absurd (true-not-false (w .1) (rw (w .0) at h)))
+
+module _ (t : Tree) (r : Rates) (time : ℕ) where
+  -- 1 carries the first fault of the tree
+  pub refusal-1-exactly-when : (f : Fault) → (started t r time .answer ≡ Refused (BadTree f)) ↔ ((treeFault t ≡ f) × (isFault f ≡ true))
+  unfolding startChecks treeChecks rateChecks
+  refusal-1-exactly-when f =
+      exactly (start-refuses t r time (BadTree f))
+      (fault-given f (treeFault t) ((isThin t ⇒ ThinTree) ∷ (not (ratesInRange r) ⇒ BadRate) ∷ []) refl)
+
+  pub refusal-2-exactly-when : (started t r time .answer ≡ Refused ThinTree) ↔ ((treeFault t ≡ NoFault) × (isThin t ≡ true))
+  unfolding startChecks treeChecks rateChecks
+  refusal-2-exactly-when =
+      let g =
+      given-exactly-when ((isFault (treeFault t) ⇒ BadTree (treeFault t)) ∷ []) (isThin t) ThinTree ((not (ratesInRange r) ⇒ BadRate) ∷ []) refl refl in
+      exactly (start-refuses t r time ThinTree)
+      (exactly g (λ w. (fault-test (treeFault t) .0 (w .0 .0), w .1), λ w. ((fault-test (treeFault t) .1 (w .0), tt), w .1)))
+
+  pub refusal-3-exactly-when : (started t r time .answer ≡ Refused BadRate)
+      ↔ ((treeFault t ≡ NoFault) × (isThin t ≡ false) × (RatesInRange r → ⊥))
+  unfolding startChecks treeChecks rateChecks
+  refusal-3-exactly-when =
+      let g =
+      given-exactly-when ((isFault (treeFault t) ⇒ BadTree (treeFault t)) ∷ (isThin t ⇒ ThinTree) ∷ []) (not (ratesInRange r)) BadRate [] refl refl in
+      let out = exactly-not (ratesInRange r) (rates-in-range r) in
+      exactly (start-refuses t r time BadRate) (exactly g (
+        λ w. (fault-test (treeFault t) .0 (w .0 .0), w .0 .1 .0, out .0 (not-true _ (w .1))),
+        λ w. ((fault-test (treeFault t) .1 (w .0), (w .1, tt)), rw (out .1 (w .2))),
+      ))
+
+-- ---- "Each returns its number and changes nothing"
+pub a-refused-bio-changes-nothing : (b : Bio) (c : Controller) (x : Refusal) → submitted b c .answer ≡ Declined x → submitted b c .state ≡ c
+unfolding submitted submittedBy
+a-refused-bio-changes-nothing b c x e =
+    ap (λ (v : Verdict). submittedBy v b c .state) (submit-refuses-exactly-when b c x .0 e)
+
+pub a-refused-tick-changes-nothing : (time : ℕ) (lent : List ℕ) (c : Controller) (x : Refusal) → ticked time lent c .answer ≡ Unticked x
+    → (ticked time lent c .state ≡ c) × (lentOf time lent c ≡ lent)
+unfolding ticked tickedBy lentOf lentBy
+a-refused-tick-changes-nothing time lent c x e =
+    let v : firstOf (tickChecks time (length lent) c) ≡ Refused x = tick-refuses-exactly-when time lent c x .0 e in
+    (ap (λ (w : Verdict). tickedBy w time c .state) v, ap (λ (w : Verdict). lentBy w time lent c) v)
+
+pub a-refused-plan-changes-nothing : (c : Controller) (x : Refusal) → planned c .answer ≡ Refused x → planned c .state ≡ c
+unfolding planned plannedBy
+a-refused-plan-changes-nothing c x e = ap (λ (v : Verdict). plannedBy v c .state) (plan-refuses c x .0 e)
+
+pub a-refused-vrate-changes-nothing : (v : ℕ) (c : Controller) (x : Refusal) → vrated v c .answer ≡ Refused x → vrated v c .state ≡ c
+unfolding vrated vratedBy
+a-refused-vrate-changes-nothing v c x e = ap (λ (w : Verdict). vratedBy w v c .state) (vrate-refuses v c x .0 e)
+
+-- a refused start has no state to keep: the one that it hands out has no leaf
+pub a-refused-start-has-no-leaf : (t : Tree) (r : Rates) (time : ℕ) (x : Refusal) → started t r time .answer ≡ Refused x
+    → started t r time .state ≡ fresh noTree slowestModel 0
+unfolding started startedBy
+a-refused-start-has-no-leaf t r time x e = ap (λ (w : Verdict). startedBy w t r time .state) (start-refuses t r time x .0 e)

@@ -1,0 +1,16 @@
+pub mod Numbers
+pub mod Words
+pub mod Units
+pub mod Cost
+pub mod Tree
+pub mod Budget
+pub mod Tick
+pub mod Plan
+pub mod Refusals
+pub mod Entries
+pub mod Trace
+pub mod Replay
+pub mod Bench
+pub mod Laws
+pub mod Invariant
+pub mod Demand3

@@ -1,0 +1,166 @@
+-- Refusal numbers: the number of each, and for each entry what it checks, in the table's order.
+-- Assumes nothing.
+use mathlib.Core.Bool.{Bool, true, false, cond, not, _&&_, _||_}
+use mathlib.Core.List.{List, [], _∷_, _++_}
+use Prim.Native.Nat.{ℕ, _+_}
+use lib.Dec.{eqb, leb, ltb}
+use Rattle.rules.specs.Numbers.{costMost, queueRoom, debtMost, elapsedMost, vtimeMost, sinceMost}
+use Rattle.rules.specs.Cost.{ratesInRange, bioInRange, costOf}
+use Rattle.rules.specs.Tree.{treeFault, newestFault, isThin, isLeaf}
+use Rattle.rules.specs.Budget.{rowAt, queueAt, entered, answerIn}
+use Rattle.rules.specs.Tick.{growth, waitingAll}
+use Rattle.rules.specs.Plan.{vrateInRange}
+use Rattle.rules.specs.declared.units.Abs.{Abs}
+use Rattle.rules.specs.declared.cost.Rates.{Rates}
+use Rattle.rules.specs.declared.cost.Model.{Model}
+use Rattle.rules.specs.declared.cost.Bio.{Bio}
+use Rattle.rules.specs.declared.tree.Tree.{Tree}
+use Rattle.rules.specs.declared.tree.Fault.{Fault}
+use Rattle.rules.specs.declared.tree.Fault.the-variants.{Sound, Count, Parent, Weight, Level}
+use Rattle.rules.specs.declared.budget.Row.{Row}
+use Rattle.rules.specs.declared.budget.Queue.{Queue}
+use Rattle.rules.specs.declared.budget.Controller.{Controller}
+use Rattle.rules.specs.declared.refusals.Refusal.{Refusal}
+use Rattle.rules.specs.declared.refusals.Refusal.the-variants.{BadTree, ThinTree, BadRate, NoLeaf, BadBio, TooDear, QueueFull, DebtFull, TimeBack, TimeFar, ClockFull, PlanDue, FewPlaces, NothingPassed, BadVrate, UnknownKind, CutShort, WrongPhase, ShortBuffer}
+use Rattle.rules.specs.declared.refusals.Verdict.{Verdict}
+use Rattle.rules.specs.declared.refusals.Verdict.the-variants.{Accepted, Refused}
+use Rattle.rules.specs.declared.refusals.Answer.{Answer}
+use Rattle.rules.specs.declared.refusals.Answer.the-variants.{Issued, Waits, OnDebt, Refused as Declined}
+use Rattle.rules.specs.declared.refusals.Count.{Count as Count·Answer}
+use Rattle.rules.specs.declared.refusals.Count.the-variants.{Released, Refused as Unticked}
+use Rattle.rules.specs.declared.refusals.Pricing.{Pricing}
+use Rattle.rules.specs.declared.refusals.Pricing.the-variants.{Priced, Refused as Unpriced}
+use Rattle.rules.specs.declared.refusals.Costing.{Costing}
+use Rattle.rules.specs.declared.refusals.Costing.the-variants.{Costs, Refused as Uncosted}
+
+-- the number of each refusal in the table
+abbrev pub number : Refusal → ℕ
+number (BadTree f) = 1
+number ThinTree = 2
+number BadRate = 3
+number NoLeaf = 4
+number BadBio = 5
+number TooDear = 6
+number QueueFull = 7
+number DebtFull = 8
+number TimeBack = 9
+number TimeFar = 10
+number ClockFull = 11
+number PlanDue = 12
+number FewPlaces = 13
+number NothingPassed = 14
+number BadVrate = 15
+number UnknownKind = 16
+number CutShort = 17
+number WrongPhase = 18
+number ShortBuffer = 28
+
+-- ---- "Where several hold in one call, .."
+infix 25 _⇒_
+pub record Check : Type 0 where
+  pub holds : Bool
+  pub refusal : Refusal
+
+abbrev pub _⇒_ : Bool → Refusal → Check
+b ⇒ x = record { holds = b; refusal = x }
+
+abbrev pub firstOf : List Check → Verdict
+firstOf [] = Accepted
+firstOf (k ∷ ks) = cond (k .holds) (Refused (k .refusal)) (firstOf ks)
+
+-- ---- what each answer says on paper: the number of its refusal, and 0 where it is none
+abbrev pub verdictNumber : Verdict → ℕ
+verdictNumber Accepted = 0
+verdictNumber (Refused x) = number x
+
+abbrev pub answerNumber : Answer → ℕ
+answerNumber Issued = 0
+answerNumber Waits = 0
+answerNumber OnDebt = 0
+answerNumber (Declined x) = number x
+
+abbrev pub countNumber : Count·Answer → ℕ
+countNumber (Released n) = 0
+countNumber (Unticked x) = number x
+
+abbrev pub pricingNumber : Pricing → ℕ
+pricingNumber (Priced m) = 0
+pricingNumber (Unpriced x) = number x
+
+abbrev pub costingNumber : Costing → ℕ
+costingNumber (Costs cost) = 0
+costingNumber (Uncosted x) = number x
+
+-- the numbers of a list of checks, in its order
+abbrev pub numbersOf : List Check → List ℕ
+numbersOf [] = []
+numbersOf (k ∷ ks) = number (k .refusal) ∷ numbersOf ks
+
+-- ---- what a check asks of a fault or an answer
+abbrev pub isFault : Fault → Bool
+isFault Sound = false
+isFault Count = true
+isFault (Parent n) = true
+isFault (Weight n) = true
+isFault (Level n) = true
+
+abbrev pub isWait : Answer → Bool
+isWait Issued = false
+isWait Waits = true
+isWait OnDebt = false
+isWait (Declined x) = false
+
+abbrev pub isDebt : Answer → Bool
+isDebt Issued = false
+isDebt Waits = false
+isDebt OnDebt = true
+isDebt (Declined x) = false
+
+-- what steps 2 and 3 would answer a bio (DECISIONS 14)
+unfoldable pub wouldBe : Controller → Bio → Answer
+wouldBe c b = answerIn (entered (b .node) c) b
+
+-- ---- the checks of each entry
+unfoldable pub treeChecks : Tree → List Check
+treeChecks t = (isFault (treeFault t) ⇒ BadTree (treeFault t)) ∷ (isThin t ⇒ ThinTree) ∷ []
+
+-- a node record's own faults, by the function that finds a whole tree's
+unfoldable pub nodeChecks : Tree → List Check
+nodeChecks t = (isFault (newestFault t) ⇒ BadTree (newestFault t)) ∷ []
+
+unfoldable pub rateChecks : Rates → List Check
+rateChecks r = (not (ratesInRange r) ⇒ BadRate) ∷ []
+
+unfoldable pub startChecks : Tree → Rates → List Check
+startChecks t r = treeChecks t ++ rateChecks r
+
+unfoldable pub costChecks : Model → Row → Bio → List Check
+costChecks model row b = (not (bioInRange b) ⇒ BadBio) ∷ (ltb costMost (costOf model row b .0) ⇒ TooDear) ∷ []
+
+unfoldable pub roomChecks : Answer → Abs → Row → Queue → List Check
+roomChecks answer cost row queue =
+    (isWait answer && leb queueRoom (queue .len) ⇒ QueueFull)
+    ∷ (isDebt answer && ltb debtMost (row .debt .0 + cost .0) ⇒ DebtFull)
+    ∷ []
+
+unfoldable pub submitChecks : Bio → Controller → List Check
+submitChecks b c =
+    (not (isLeaf (c .tree) (b .node)) ⇒ NoLeaf)
+    ∷ costChecks (c .model) (rowAt c (b .node)) b
+    ++ roomChecks (wouldBe c b) (costOf (c .model) (rowAt c (b .node)) b) (rowAt c (b .node)) (queueAt c (b .node))
+
+-- places is the length of the lent buffer
+unfoldable pub tickChecks : ℕ → ℕ → Controller → List Check
+tickChecks time places c =
+    (ltb time (c .clock .time) ⇒ TimeBack)
+    ∷ (ltb (c .clock .time + elapsedMost) time ⇒ TimeFar)
+    ∷ (ltb vtimeMost (c .clock .vtime .0 + growth (c .clock) time .0) ⇒ ClockFull)
+    ∷ (ltb sinceMost (c .clock .since .0 + growth (c .clock) time .0) ⇒ PlanDue)
+    ∷ (ltb places (waitingAll c) ⇒ FewPlaces)
+    ∷ []
+
+unfoldable pub planChecks : Controller → List Check
+planChecks c = (eqb (c .clock .since .0) 0 ⇒ NothingPassed) ∷ []
+
+unfoldable pub vrateChecks : ℕ → List Check
+vrateChecks v = (not (vrateInRange v) ⇒ BadVrate) ∷ []

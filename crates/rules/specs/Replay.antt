@@ -1,0 +1,172 @@
+-- Trace records, continued: the phases of a trace and the lines of the replay.
+-- Assumes nothing.
+use mathlib.Core.Bool.{Bool, true, false, cond, _||_}
+use mathlib.Core.List.{List, [], _∷_, _++_}
+use Prim.Native.Nat.{ℕ, zero, suc, _+_, _/_, _%_}
+use lib.Dec.{eqb, leb, ltb}
+use lib.ListN.{length, take, set, replicate}
+use Rattle.rules.specs.Numbers.{nodesMost, leafMost, waitingMost}
+use Rattle.rules.specs.Words.{joinTo, has}
+use Rattle.rules.specs.Budget.{fresh, shareAt}
+use Rattle.rules.specs.Refusals.{number, firstOf, nodeChecks, rateChecks}
+use Rattle.rules.specs.Entries.{noTree, slowest, slowestModel, started, submitted, ticked, lentOf, planned, vrated}
+use Rattle.rules.specs.Trace.{kindOf, readAt}
+use Rattle.rules.specs.declared.cost.Rates.{Rates}
+use Rattle.rules.specs.declared.tree.Tree.{Tree}
+use Rattle.rules.specs.declared.budget.Controller.{Controller}
+use Rattle.rules.specs.declared.refusals.Refusal.{Refusal}
+use Rattle.rules.specs.declared.refusals.Refusal.the-variants.{WrongPhase}
+use Rattle.rules.specs.declared.refusals.Verdict.{Verdict}
+use Rattle.rules.specs.declared.refusals.Verdict.the-variants.{Accepted, Refused}
+use Rattle.rules.specs.declared.refusals.Answer.{Answer}
+use Rattle.rules.specs.declared.refusals.Answer.the-variants.{Issued, Waits, OnDebt, Refused as Declined}
+use Rattle.rules.specs.declared.refusals.Count.{Count as Counted}
+use Rattle.rules.specs.declared.refusals.Count.the-variants.{Released, Refused as Unticked}
+use Rattle.rules.specs.declared.trace.Record.{Record}
+use Rattle.rules.specs.declared.trace.Record.the-variants.{Node, Model as ModelOf, Start, Bio as BioOf, Tick, Plan, Vrate}
+use Rattle.rules.specs.declared.trace.Read.{Read}
+use Rattle.rules.specs.declared.trace.Read.the-variants.{Found, End, Refused as Unread}
+use Rattle.rules.specs.declared.replay.Phase.{Phase}
+use Rattle.rules.specs.declared.replay.Phase.the-variants.{Setup, Priced, Running, Stopped}
+use Rattle.rules.specs.declared.replay.Replay.{Replay}
+
+-- ---- lines: a letter, a blank before each number, the number's decimal digits, a line feed
+unfoldable pub digitsIn : ℕ → ℕ → List ℕ
+digitsIn zero n = []
+digitsIn (suc more) n = cond (ltb n 10) ((48 + n) ∷ []) (digitsIn more (n / 10) ++ ((48 + n % 10) ∷ []))
+
+-- a number of 64 bits has at most 20 digits
+unfoldable pub digits : ℕ → List ℕ
+digits n = digitsIn 20 n
+
+abbrev pub numbers : List ℕ → List ℕ
+numbers [] = []
+numbers (n ∷ ns) = 32 ∷ digits n ++ numbers ns
+
+unfoldable pub line : ℕ → List ℕ → List ℕ
+line letter ns = letter ∷ numbers ns ++ (10 ∷ [])
+
+-- "The replay prints one line each: .."
+unfoldable pub refusalLine : Refusal → List ℕ
+refusalLine x = line 82 (number x ∷ [])
+
+unfoldable pub answerLine : Answer → ℕ → List ℕ
+answerLine Issued id = line 73 (id ∷ [])
+answerLine Waits id = line 87 (id ∷ [])
+answerLine OnDebt id = line 68 (id ∷ [])
+answerLine (Declined x) id = refusalLine x
+
+abbrev pub releaseLines : List ℕ → List ℕ
+releaseLines [] = []
+releaseLines (id ∷ ids) = line 114 (id ∷ []) ++ releaseLines ids
+
+unfoldable pub tickLines : Counted → List ℕ → List ℕ
+tickLines (Released n) lent = releaseLines (take n lent)
+tickLines (Unticked x) lent = refusalLine x
+
+unfoldable pub shareLines : Controller → List ℕ
+shareLines c = joinTo (λ n. cond (has (c .active) n) (line 80 (n ∷ shareAt c n ∷ [])) []) leafMost
+
+unfoldable pub planLines : Verdict → Controller → List ℕ
+planLines Accepted c = shareLines c
+planLines (Refused x) c = refusalLine x
+
+unfoldable pub verdictLines : Verdict → List ℕ
+verdictLines Accepted = []
+verdictLines (Refused x) = refusalLine x
+
+-- ---- phases: "Setup: 1 .., 2 .., 3 ... After start: 4 .. 7"; "Exactly one model comes before start; .." (DECISIONS 16)
+unfoldable pub inPhase : Phase → ℕ → Bool
+inPhase Setup kind = eqb kind 1 || eqb kind 2
+inPhase Priced kind = eqb kind 1 || eqb kind 3
+inPhase Running kind = leb 4 kind
+inPhase Stopped kind = false
+
+abbrev pub isStopped : Phase → Bool
+isStopped Setup = false
+isStopped Priced = false
+isStopped Running = false
+isStopped Stopped = true
+
+-- ---- one record: the bytes that it prints, and the replay after it
+pub record Step : Type 0 where
+  pub bytes : List ℕ
+  pub replay : Replay
+
+abbrev pub within : Phase → Tree → Rates → Controller → Replay
+within phase t r c = record { phase = phase; tree = t; rates = r; state = c }
+
+-- "After R in setup, .."
+abbrev pub stopsAt : Refusal → Replay → Step
+stopsAt x s = record { bytes = refusalLine x; replay = within Stopped (s .tree) (s .rates) (s .state) }
+
+abbrev pub silent : Replay → Step
+silent s = record { bytes = []; replay = s }
+
+-- "nodes are numbered from 1": the root is there before the first
+abbrev pub rootTree : Tree
+rootTree = record { count = 1; parents = replicate nodesMost 0; weights = replicate nodesMost 0 }
+
+-- until start there is no state of the reader's: a refused start's stands in its place
+abbrev pub beginning : Replay
+beginning = within Setup rootTree slowest (fresh noTree slowestModel 0)
+
+abbrev pub grown : ℕ → ℕ → Tree → Tree
+grown p w t = record { count = t .count + 1; parents = set (t .parents) (t .count) p; weights = set (t .weights) (t .count) w }
+
+-- "In a trace a node record is checked .."
+unfoldable pub nodeStep : Verdict → Tree → Replay → Step
+nodeStep Accepted t s = silent (within (s .phase) t (s .rates) (s .state))
+nodeStep (Refused x) t s = stopsAt x s
+
+unfoldable pub modelStep : Verdict → Rates → Replay → Step
+modelStep Accepted r s = silent (within Priced (s .tree) r (s .state))
+modelStep (Refused x) r s = stopsAt x s
+
+-- ".. and start for too few nodes, then for 2": each node and the rates were checked when they came
+unfoldable pub startStep : Verdict → Controller → Replay → Step
+startStep Accepted c s = silent (within Running (s .tree) (s .rates) c)
+startStep (Refused x) c s = stopsAt x s
+
+abbrev pub goesOn : List ℕ → Controller → Replay → Step
+goesOn bytes c s = record { bytes = bytes; replay = within (s .phase) (s .tree) (s .rates) c }
+
+-- the replay lends a tick room for every bio that can wait (DECISIONS 17)
+abbrev pub allRoom : List ℕ
+allRoom = replicate waitingMost 0
+
+unfoldable pub recordStep : Record → Replay → Step
+recordStep (Node p w) s = nodeStep (firstOf (nodeChecks (grown p w (s .tree)))) (grown p w (s .tree)) s
+recordStep (ModelOf r) s = modelStep (firstOf (rateChecks r)) r s
+recordStep (Start time) s = startStep (started (s .tree) (s .rates) time .answer) (started (s .tree) (s .rates) time .state) s
+recordStep (BioOf b) s = goesOn (answerLine (submitted b (s .state) .answer) (b .id)) (submitted b (s .state) .state) s
+recordStep (Tick time) s =
+    goesOn (tickLines (ticked time allRoom (s .state) .answer) (lentOf time allRoom (s .state))) (ticked time allRoom (s .state) .state) s
+recordStep Plan s = goesOn (planLines (planned (s .state) .answer) (planned (s .state) .state)) (planned (s .state) .state) s
+recordStep (Vrate v) s = goesOn (verdictLines (vrated v (s .state) .answer)) (vrated v (s .state) .state) s
+
+-- ---- what is read at a place: a record, which is checked for 18 and then for its own refusals, the end, or 16 or 17
+unfoldable pub readStep : Read → Replay → Step
+readStep (Found r next) s = cond (inPhase (s .phase) (kindOf r)) (recordStep r s) (stopsAt WrongPhase s)
+readStep End s = silent s
+readStep (Unread x) s = stopsAt x s
+
+-- where the next record begins; at the end, and where nothing can be read, there is none
+unfoldable pub nextPlace : Read → ℕ → ℕ
+nextPlace (Found r next) place = next
+nextPlace End place = place
+nextPlace (Unread x) place = place
+
+-- a replay that has stopped reads and prints no more
+unfoldable pub stepped : Read → Replay → Step
+stepped read s = cond (isStopped (s .phase)) (silent s) (readStep read s)
+
+-- ---- a whole trace: each record takes a byte at least, so its length bounds how many there are
+unfoldable pub replayFrom : ℕ → List ℕ → ℕ → Replay → List ℕ
+replayFrom zero trace place s = stepped (readAt trace place) s .bytes
+replayFrom (suc more) trace place s =
+    stepped (readAt trace place) s .bytes
+    ++ replayFrom more trace (nextPlace (readAt trace place) place) (stepped (readAt trace place) s .replay)
+
+unfoldable pub replay : List ℕ → List ℕ
+replay trace = replayFrom (length trace) trace 0 beginning

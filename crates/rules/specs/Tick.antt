@@ -1,0 +1,107 @@
+-- Tick.
+-- Assumes nothing.
+use mathlib.Core.Bool.{Bool, true, false, cond, not, _&&_}
+use mathlib.Core.List.{List, [], _∷_, _++_}
+use Prim.Native.Nat.{ℕ, zero, suc, _+_, _-_, _*_, min}
+use lib.Dec.{ltb}
+use lib.ListN.{length, drop}
+use Rattle.rules.specs.Numbers.{leafMost, idleCap}
+use Rattle.rules.specs.Words.{sumTo, joinTo, table, has}
+use Rattle.rules.specs.Units.{abs, virt, FLOOR, relative, repayable}
+use Rattle.rules.specs.Budget.{rowAt, queueAt, shareAt, popped, oldestId, oldestCost, withBudget, withDebt, charged, owes, waits, fits}
+use Rattle.rules.specs.declared.units.Abs.{Abs}
+use Rattle.rules.specs.declared.units.Virt.{Virt}
+use Rattle.rules.specs.declared.budget.Row.{Row}
+use Rattle.rules.specs.declared.budget.Queue.{Queue}
+use Rattle.rules.specs.declared.budget.Clock.{Clock}
+use Rattle.rules.specs.declared.budget.Controller.{Controller}
+
+-- ---- "With the new time, virtual time grows by .."
+unfoldable pub growth : Clock → ℕ → Virt
+growth k time = virt (FLOOR ((time - k .time) * k .vrate) 100)
+
+unfoldable pub advanced : ℕ → Clock → Clock
+advanced time k = record {
+  time = time;
+  vtime = virt (k .vtime .0 + growth k time .0);
+  since = virt (k .since .0 + growth k time .0);
+  vrate = k .vrate;
+}
+
+-- ---- one active leaf
+-- "the budget gains that amount"
+abbrev pub gained : Virt → Row → Row
+gained g r = withBudget (virt (r .budget .0 + g .0)) r
+
+-- "if it owes, it repays p = .., and the budget falls by .."
+unfoldable pub repayment : ℕ → Row → Abs
+repayment share r = abs (min (r .debt .0) (repayable (r .budget) share .0))
+
+unfoldable pub repaid : ℕ → Row → Row
+repaid share r =
+    cond (owes r)
+    (withDebt (abs (r .debt .0 - repayment share r .0)) (charged (repayment share r) share r))
+    r
+
+-- what a leaf's turn leaves: its row, its queue, and the ids that it released, in order
+pub record Turn : Type 0 where
+  pub row : Row
+  pub queue : Queue
+  pub ids : List ℕ
+
+abbrev pub andFirst : ℕ → Turn → Turn
+andFirst id t = record { row = t .row; queue = t .queue; ids = id ∷ t .ids }
+
+-- "waiting bios are released, ..": at most as many as wait, up to the first that does not fit (DECISIONS 18)
+unfoldable pub releaseIn : ℕ → ℕ → Row → Queue → Turn
+releaseIn zero share r q = record { row = r; queue = q; ids = [] }
+releaseIn (suc more) share r q =
+    cond (fits (oldestCost q) share r)
+    (andFirst (oldestId q) (releaseIn more share (charged (oldestCost q) share r) (popped q)))
+    (record { row = r; queue = q; ids = [] })
+
+-- "if it now owes nothing, .."
+unfoldable pub released : ℕ → Row → Queue → Turn
+released share r q = cond (owes r) (record { row = r; queue = q; ids = [] }) (releaseIn (q .len) share r q)
+
+-- "last, if it owes nothing .."
+unfoldable pub capped : Row → Queue → Row
+capped r q = cond (not (owes r) && not (waits q) && ltb idleCap (r .budget .0)) (withBudget (virt idleCap) r) r
+
+abbrev pub andCapped : Turn → Turn
+andCapped t = record { row = capped (t .row) (t .queue); queue = t .queue; ids = t .ids }
+
+unfoldable pub turn : Virt → ℕ → Row → Queue → Turn
+turn g share r q = andCapped (released share (repaid share (gained g r)) q)
+
+-- ---- "Then for each active leaf, by rising number: .."
+unfoldable pub turnOf : Virt → Controller → ℕ → Turn
+turnOf g c n =
+    cond (has (c .active) n)
+    (turn g (shareAt c n) (rowAt c n) (queueAt c n))
+    (record { row = rowAt c n; queue = queueAt c n; ids = [] })
+
+-- "Released ids go .."
+unfoldable pub releases : Virt → Controller → List ℕ
+releases g c = joinTo (λ n. turnOf g c n .ids) leafMost
+
+-- "places behind the last stay"
+unfoldable pub lentAfter : List ℕ → List ℕ → List ℕ
+lentAfter ids lent = ids ++ drop (length ids) lent
+
+unfoldable pub tick : ℕ → Controller → Controller
+tick time c = record {
+  tree = c .tree;
+  model = c .model;
+  clock = advanced time (c .clock);
+  leaves = c .leaves;
+  active = c .active;
+  donors = c .donors;
+  shares = c .shares;
+  rows = table (λ n. turnOf (growth (c .clock) time) c n .row);
+  queues = table (λ n. turnOf (growth (c .clock) time) c n .queue);
+}
+
+-- the bios waiting over all leaves
+unfoldable pub waitingAll : Controller → ℕ
+waitingAll c = sumTo (λ n. queueAt c n .len) leafMost

@@ -1,0 +1,58 @@
+// Refusals and answers. What number each refusal has in document 01 is said once, in specs/Refusals.antt.
+use crate::cost::Model;
+use crate::tree::Fault;
+use crate::units::Abs;
+
+pub enum Refusal {
+    BadTree(Fault),
+    ThinTree,
+    BadRate,
+    NoLeaf,
+    BadBio,
+    TooDear,
+    QueueFull,
+    DebtFull,
+    TimeBack,
+    TimeFar,
+    ClockFull,
+    PlanDue,
+    FewPlaces,
+    NothingPassed,
+    BadVrate,
+    UnknownKind,
+    CutShort,
+    WrongPhase,
+    ShortBuffer,
+}
+
+// What six rates are priced at.
+pub enum Pricing {
+    Priced(Model),
+    Refused(Refusal),
+}
+
+// What a bio is found to cost.
+pub enum Costing {
+    Costs(Abs),
+    Refused(Refusal),
+}
+
+// What a tree's check, start, plan and vrate answer.
+pub enum Verdict {
+    Accepted,
+    Refused(Refusal),
+}
+
+// What a submission answers.
+pub enum Answer {
+    Issued,
+    Waits,
+    OnDebt,
+    Refused(Refusal),
+}
+
+// What a tick answers: how many bios it released.
+pub enum Count {
+    Released(usize),
+    Refused(Refusal),
+}
