@@ -1,0 +1,15 @@
+-- `sets::lowest` meets its contract: the zeros below the lowest 1 are its number.
+-- Assumes nothing.
+use native.Mathlib.Omega.{arith}
+use Rattle.sets.proofs.Zeros.{zeros-lowest}
+use Rattle.sets.proofs.lowest.Statement.{statement}
+use Rattle.sets.proofs.lowest.Tie as tie
+
+cast-result : tie.Need-cast-result
+cast-result c = omega (arith, zeros-lowest (c .args .set) (c .pre) (c .fits .set .fits) .node)
+
+returns : tie.Need-returns
+returns c = zeros-lowest (c .args .set) (c .pre) (c .fits .set .fits)
+
+pub lowest-spec : {M : Type 1} → statement M
+lowest-spec = tie.close (tie.spec cast-result returns)
