@@ -1,0 +1,13 @@
+-- `cost::bio::in_range` meets its contract: the code is the definition.
+-- Assumes nothing.
+use mathlib.Core.Path.{refl}
+use Rattle.rules.specs.Cost.{bioInRange, bytesInRange, sectorInRange, flagsInRange}
+use Rattle.cost.proofs.bio.in_range.Statement.{statement}
+use Rattle.cost.proofs.bio.in_range.Tie as tie
+
+returns : tie.Need-returns
+unfolding bioInRange bytesInRange sectorInRange flagsInRange
+returns c = refl
+
+pub in-range-spec : {M : Type 1} → statement M
+in-range-spec = tie.close (tie.spec returns)
