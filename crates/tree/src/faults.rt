@@ -1,0 +1,102 @@
+// The rules that a tree must keep, node by node: the first one that is broken is the tree's fault.
+ghost use mathlib.Core.Path.{_≡_};
+ghost use mathlib.Core.List.{List};
+ghost use Prim.Native.Nat.{ℕ, _-_, _<_, _≤_};
+ghost use Rattle.rules.specs.Tree.{level, weightInRange, nodeFault, treeFault};
+ghost use Rattle.rules.specs.Refusals.{isFault};
+ghost use Rattle.tree.specs.View.{treeOf, Climbs, firstFault};
+use crate::wide;
+use rules::tree::Fault;
+use rules::tree::Tree;
+
+const NODES_LEAST: usize = 2;
+
+const NODES_MOST: usize = 64;
+
+const WEIGHT_LEAST: u16 = 1;
+
+const WEIGHT_MOST: u16 = 10000;
+
+const LEVEL_MOST: usize = 8;
+
+// How many levels a node lies below the root, by a call on its parent.
+fn level_of(parents: &[u8; 64], node: usize) -> usize
+    requires { ⌜ Climbs (now parents) node × (node < 64) ⌝ }
+    ensures { λ r. ⌜ ((count : ℕ) (ws : List ℕ) → r ≡ level (treeOf count (now (parents .entry)) ws) node) × (r ≤ node) ⌝ }
+{
+    if node == 0 {
+        return 0;
+    }
+    let parent = wide(parents[node]);
+    level_of(parents, parent) + 1
+}
+
+fn weight_in_range(weight: u16) -> bool
+    ensures { λ r. ⌜ r ≡ weightInRange weight ⌝ }
+{
+    if weight < WEIGHT_LEAST {
+        return false;
+    }
+    weight <= WEIGHT_MOST
+}
+
+// The parent is judged first: only below a smaller one has a node a level.
+fn node_fault<'a>(parents: &'a [u8; 64], weights: &'a [u16; 64], node: usize) -> Fault
+    requires { ⌜ Climbs (now parents) (node - 1) × (0 < node) × (node < 64) ⌝ }
+    ensures { λ r. ⌜ ((count : ℕ) → r ≡ nodeFault (treeOf count (now (parents .entry)) (now (weights .entry))) node) ⌝ }
+{
+    if node <= wide(parents[node]) {
+        return Fault::Parent(node);
+    }
+    let weight = weights[node];
+    if !weight_in_range(weight) {
+        return Fault::Weight(node);
+    }
+    if LEVEL_MOST < level_of(parents, node) {
+        return Fault::Level(node);
+    }
+    Fault::Sound
+}
+
+// Is anything wrong?
+pub fn broken(found: Fault) -> bool
+    ensures { λ r. ⌜ r ≡ isFault found ⌝ }
+{
+    match found {
+        Fault::Sound => false,
+        Fault::Count => true,
+        Fault::Parent(_) => true,
+        Fault::Weight(_) => true,
+        Fault::Level(_) => true,
+    }
+}
+
+// The first fault of the nodes, each of which is judged once those before it are found sound.
+fn first_fault<'a>(parents: &'a [u8; 64], weights: &'a [u16; 64], count: usize) -> Fault
+    requires { ⌜ (0 < count) × (count ≤ 64) ⌝ }
+    ensures { λ r. ⌜ r ≡ firstFault (treeOf count (now (parents .entry)) (now (weights .entry))) ⌝ }
+{
+    let mut node: usize = 1;
+    while node < count {
+        let found = node_fault(parents, weights, node);
+        if broken(found) {
+            return found;
+        }
+        node += 1;
+    }
+    Fault::Sound
+}
+
+// What is wrong with a tree: any count, parents and weights may be handed in.
+pub fn fault(tree: Tree) -> Fault
+    ensures { λ r. ⌜ r ≡ treeFault tree ⌝ }
+{
+    let count = tree.count;
+    if count < NODES_LEAST {
+        return Fault::Count;
+    }
+    if NODES_MOST < count {
+        return Fault::Count;
+    }
+    first_fault(&tree.parents, &tree.weights, count)
+}

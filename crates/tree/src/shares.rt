@@ -1,0 +1,109 @@
+// Base shares: what each active leaf of a sound tree is worth, and whether a tree is so thin that some leaf could starve.
+ghost use mathlib.Core.Path.{_≡_};
+ghost use mathlib.Core.Bool.{true};
+ghost use Prim.Native.Nat.{_*_, _^_, _<_};
+ghost use Rattle.rules.specs.Units.{FLOOR};
+ghost use Rattle.rules.specs.Words.{has as member};
+ghost use Rattle.rules.specs.Tree.{baseShares, isThin};
+ghost use Rattle.rules.specs.Laws.Trees.{SoundTree, Within};
+ghost use Rattle.tree.specs.View.{treeOf, Lit, childSumIn, shareAmong};
+use crate::heavy;
+use crate::nodes::active_nodes;
+use crate::nodes::leaves_in;
+use crate::wide;
+use rules::tree::Tree;
+use sets::has;
+use sets::lowest;
+use sets::remove;
+
+const WHOLE: u64 = 1073741824;
+
+const SHARE_FLOOR: u64 = 1024;
+
+// The sum of the weights of a node's active children.
+fn child_sum<'a>(
+    parents: &'a [u8; 64],
+    weights: &'a [u16; 64],
+    count: usize,
+    nodes: u64,
+    parent: usize,
+) -> u64
+    requires { ⌜ Lit (treeOf count (now parents) (now weights)) nodes ⌝ }
+    ensures { λ r. ⌜ r ≡ childSumIn (treeOf count (now (parents .entry)) (now (weights .entry))) nodes parent ⌝ }
+{
+    let mut sum: u64 = 0;
+    let mut node: usize = 1;
+    while node < count {
+        if wide(parents[node]) == parent {
+            if has(nodes, node) {
+                sum += heavy(weights[node]);
+            }
+        }
+        node += 1;
+    }
+    sum
+}
+
+// What a child with this weight has of its parent's share.
+fn portion(above: u64, weight: u64, sum: u64) -> u64
+    requires { ⌜ (above * weight < 2 ^ 64) × (0 < sum) ⌝ }
+    ensures { λ r. ⌜ r ≡ FLOOR (above * weight) sum ⌝ }
+{
+    above * weight / sum
+}
+
+// The share of an active node, by a call on its parent, whose number is smaller.
+pub fn share_of<'a>(
+    parents: &'a [u8; 64],
+    weights: &'a [u16; 64],
+    count: usize,
+    nodes: u64,
+    node: usize,
+) -> u64
+    requires { ⌜ Lit (treeOf count (now parents) (now weights)) nodes × (member nodes node ≡ true) ⌝ }
+    ensures { λ r. ⌜ r ≡ shareAmong (treeOf count (now (parents .entry)) (now (weights .entry))) nodes node ⌝ }
+{
+    if node == 0 {
+        return WHOLE;
+    }
+    let parent = wide(parents[node]);
+    let above = share_of(parents, weights, count, nodes, parent);
+    let sum = child_sum(parents, weights, count, nodes, parent);
+    portion(above, heavy(weights[node]), sum)
+}
+
+// The base share of each active leaf; every other place is 0.
+pub fn base_shares(tree: Tree, active: u64) -> [u32; 64]
+    requires { ⌜ SoundTree tree × Within tree active ⌝ }
+    ensures { λ r. ⌜ r ≡ baseShares tree active ⌝ }
+{
+    let count = tree.count;
+    let nodes = active_nodes(&tree.parents, count, active);
+    let mut shares = [0u32; 64];
+    let mut left = active;
+    while left != 0 {
+        let leaf = lowest(left);
+        shares[leaf] = share_of(&tree.parents, &tree.weights, count, nodes, leaf) as u32;
+        left = remove(left, leaf);
+    }
+    shares
+}
+
+// With all leaves active, is some leaf's share below the floor?
+pub fn thin(tree: Tree) -> bool
+    requires { ⌜ SoundTree tree ⌝ }
+    ensures { λ r. ⌜ r ≡ isThin tree ⌝ }
+{
+    let count = tree.count;
+    let all = leaves_in(&tree.parents, count);
+    let nodes = active_nodes(&tree.parents, count, all);
+    let mut left = all;
+    while left != 0 {
+        let leaf = lowest(left);
+        if share_of(&tree.parents, &tree.weights, count, nodes, leaf) < SHARE_FLOOR {
+            return true;
+        }
+        left = remove(left, leaf);
+    }
+    false
+}
