@@ -1,0 +1,151 @@
+-- Releasing one bio after the other: what was written so far, with the release from here on behind it, is the whole release.
+-- Assumes nothing.
+use mathlib.Core.Path.{_≡_, refl, sym, ap, _∙_}
+use mathlib.Core.Bool.{Bool, true, false}
+use mathlib.Core.List.{List, [], _∷_, _++_, append-assoc, append-nil}
+use Prim.Native.Nat.{ℕ, zero, suc, _+_, _-_, _≤_, _<_}
+use native.Mathlib.Numerals.{add-one}
+use native.Mathlib.Omega.{arith}
+use lib.ListN.{length, getD, take, drop, set, length-set, take-append-drop}
+use lib.Seq.{length-take-le, take-suc-set, drop-set-lt, drop-drop}
+use Rattle.rules.specs.Units.{abs}
+use Rattle.rules.specs.Budget.{popped, oldestId, oldestCost, charged, owes, fits}
+use Rattle.rules.specs.Tick.{Turn, gained, repaid, releaseIn, released, capped, turn, lentAfter}
+use Rattle.rules.specs.Laws.Queues.{popped-sound, oldest-cost-most}
+use Rattle.rules.specs.declared.units.Abs.{Abs}
+use Rattle.rules.specs.declared.units.Virt.{Virt}
+use Rattle.rules.specs.declared.budget.Row.{Row}
+use Rattle.rules.specs.declared.budget.Queue.{Queue}
+use Rattle.leaf.specs.Fit.{CanRelease, Priced, Payable, cheap-is-priced, fitting-is-payable}
+use Rattle.leaf.specs.Alone.{cappedWith}
+use Rattle.leaf.specs.Turns.{turned}
+use Rattle.leaf.specs.declared.tick.Turned.{Turned}
+
+-- nothing is released from here on
+abbrev pub rest : Row → Queue → Turn
+rest row queue = record { row = row; queue = queue; ids = [] }
+
+-- a turn that goes on after some ids were written
+abbrev pub andThen : List ℕ → Turn → Turn
+andThen ids t = record { row = t .row; queue = t .queue; ids = ids ++ t .ids }
+
+-- ---- the rule, one bio at a time
+module _ (share : ℕ) (row : Row) (queue : Queue) where
+  pub nothing-waits : queue .len ≡ 0 → releaseIn (queue .len) share row queue ≡ rest row queue
+  unfolding releaseIn
+  nothing-waits e = rw e
+
+  pub first-does-not-fit : fits (oldestCost queue) share row ≡ false → releaseIn (queue .len) share row queue ≡ rest row queue
+  unfolding releaseIn
+  first-does-not-fit f = go (queue .len)
+    where
+      go : (more : ℕ) → releaseIn more share row queue ≡ rest row queue
+      go zero = refl
+      go (suc more) = rw f
+
+  first-fits : 0 < queue .len → fits (oldestCost queue) share row ≡ true
+      → releaseIn (queue .len) share row queue
+      ≡ andThen (oldestId queue ∷ []) (releaseIn (popped queue .len) share (charged (oldestCost queue) share row) (popped queue))
+  unfolding releaseIn
+  first-fits some f =
+      let e : queue .len ≡ suc (queue .len - 1) = omega arith in
+      ap (λ (more : ℕ). releaseIn more share row queue) e ∙ rw f
+
+pub cost-is-oldest : (queue : Queue) {at : ℕ} → at ≡ queue .head → getD (queue .costs) at (abs 0) ≡ oldestCost queue
+cost-is-oldest queue e = rw e
+
+pub id-is-oldest : (queue : Queue) {at : ℕ} → at ≡ queue .head → getD (queue .ids) at 0 ≡ oldestId queue
+id-is-oldest queue e = rw e
+
+pub popped-is-shorter : (queue : Queue) {left : Queue} → left ≡ popped queue → 0 < queue .len → left .len < queue .len
+popped-is-shorter queue e some = rw e (omega arith)
+
+-- ---- the loop
+-- the first `count` places of `out` were written, and the row and the queue are what that left
+pub record Going (share : ℕ) (row₀ : Row) (queue₀ : Queue) (out₀ : List ℕ) (row : Row) (queue : Queue) (out : List ℕ) (count : ℕ) : Type 0 where
+  pub ready : CanRelease share row queue
+  pub room : queue .len + count ≤ length out₀
+  pub size : length out ≡ length out₀
+  pub behind : drop count out ≡ drop count out₀
+  pub whole : releaseIn (queue₀ .len) share row₀ queue₀ ≡ andThen (take count out) (releaseIn (queue .len) share row queue)
+
+pub begins : (share : ℕ) (row : Row) (queue : Queue) (out : List ℕ) → CanRelease share row queue → queue .len ≤ length out
+    → Going share row queue out row queue out 0
+begins share row queue out ready room =
+    record { ready = ready; room = omega arith; size = refl; behind = refl; whole = refl }
+
+module _ {share : ℕ} {row₀ : Row} {queue₀ : Queue} {out₀ : List ℕ} {row : Row} {queue : Queue} {out : List ℕ} {count : ℕ}
+    (going : Going share row₀ queue₀ out₀ row queue out count) where
+  pub first-is-priced : {cost : Abs} → cost ≡ oldestCost queue → Priced cost share
+  first-is-priced e = rw e (cheap-is-priced (going .ready .held) (oldest-cost-most queue (going .ready .waiting)))
+
+  -- what the test says of the cost that was read is said of the oldest
+  pub first-told : {cost : Abs} {fit told : Bool} → cost ≡ oldestCost queue → fit ≡ fits cost share row → fit ≡ told
+      → fits (oldestCost queue) share row ≡ told
+  first-told e f t = ap (λ (cost : Abs). fits cost share row) (sym e) ∙ sym f ∙ t
+
+  pub first-is-payable : {cost : Abs} → cost ≡ oldestCost queue → fits (oldestCost queue) share row ≡ true → Payable cost share row
+  first-is-payable e f =
+      rw e (fitting-is-payable (going .ready .held) (oldest-cost-most queue (going .ready .waiting)) (omega arith) f)
+
+  one-more : 0 < queue .len → fits (oldestCost queue) share row ≡ true
+      → Going share row₀ queue₀ out₀ (charged (oldestCost queue) share row) (popped queue) (set out count (oldestId queue)) (count + 1)
+  one-more some f =
+      let cheap = oldest-cost-most queue (going .ready .waiting) in
+      let inside : count < length out = omega (arith, going .room, going .size) in
+      record {
+        ready = record {
+          held = going .ready .held;
+          waiting = popped-sound queue (going .ready .waiting);
+          usage = omega (arith, going .ready .usage);
+        };
+        room = omega (arith, going .room);
+        size = rw length-set (going .size);
+        behind =
+            drop-set-lt (count + 1) out count (oldestId queue) (omega arith)
+            ∙ sym (drop-drop 1 count out) ∙ ap (drop 1) (going .behind) ∙ drop-drop 1 count out₀;
+        whole =
+            going .whole ∙ ap (andThen (take count out)) (first-fits share row queue some f)
+            ∙ rw (add-one count, take-suc-set out count (oldestId queue) inside, append-assoc);
+      }
+
+  pub goes-on : {cost : Abs} {id : ℕ} {next : Row} {left : Queue} → 0 < queue .len → fits (oldestCost queue) share row ≡ true
+      → cost ≡ oldestCost queue → id ≡ oldestId queue → next ≡ charged cost share row → left ≡ popped queue
+      → Going share row₀ queue₀ out₀ next left (set out count id) (count + 1)
+  goes-on some f e i n l = rw (n, l, i, e) (one-more some f)
+
+  pub ends : releaseIn (queue .len) share row queue ≡ rest row queue
+      → (_≡_ {A = Turned} (record { row = row; queue = queue; count = count }) (turned (releaseIn (queue₀ .len) share row₀ queue₀)))
+      × (out ≡ lentAfter (releaseIn (queue₀ .len) share row₀ queue₀ .ids) out₀)
+  unfolding lentAfter
+  ends e =
+      let size : length (take count out) ≡ count = length-take-le count out (omega (arith, going .room, going .size)) in
+      let all : releaseIn (queue₀ .len) share row₀ queue₀ ≡ record { row = row; queue = queue; ids = take count out } =
+      going .whole ∙ ap (andThen (take count out)) e ∙ rw append-nil in (
+        rw (all, size),
+        rw (all, size, ← going .behind) (sym (take-append-drop count out)),
+      )
+
+-- ---- the release of a leaf that may owe
+module _ (share : ℕ) (row : Row) (queue : Queue) (out : List ℕ) where
+  pub owing-releases-nothing : owes row ≡ true
+      → (_≡_ {A = Turned} (record { row = row; queue = queue; count = 0 }) (turned (released share row queue)))
+      × (out ≡ lentAfter (released share row queue .ids) out)
+  unfolding released lentAfter
+  owing-releases-nothing e = (rw e, rw e)
+
+  pub free-releases : {t : Turned} {after : List ℕ} → owes row ≡ false
+      → (t ≡ turned (releaseIn (queue .len) share row queue)) × (after ≡ lentAfter (releaseIn (queue .len) share row queue .ids) out)
+      → (t ≡ turned (released share row queue)) × (after ≡ lentAfter (released share row queue .ids) out)
+  unfolding released
+  free-releases e w = rw e w
+
+-- ---- the whole turn, stage by stage
+pub turn-ends : (gain : Virt) (share : ℕ) (row : Row) (queue : Queue) (out : List ℕ) {after : List ℕ} {more paid left : Row} {t : Turned}
+    → more ≡ gained gain row → paid ≡ repaid share more
+    → (t ≡ turned (released share paid queue)) × (after ≡ lentAfter (released share paid queue .ids) out)
+    → left ≡ cappedWith (t .row) (t .queue .len)
+    → (_≡_ {A = Turned} (record { row = left; queue = t .queue; count = t .count }) (turned (turn gain share row queue)))
+    × (after ≡ lentAfter (turn gain share row queue .ids) out)
+unfolding turn capped
+turn-ends gain share row queue out m p w l = (rw (l, w .0, p, m), rw (w .1, p, m))

@@ -1,0 +1,59 @@
+-- `leaf::tick::repaid` meets its contract: what is repaid is owed, and the budget can be charged for it.
+-- Assumes nothing.
+use mathlib.Core.Path.{_≡_, sym, _∙_}
+use mathlib.Core.Bool.{true}
+use Prim.Native.Nat.{ℕ, _-_}
+use Rattle.rules.specs.Units.{abs}
+use Rattle.rules.specs.Budget.{owes, charged, withDebt}
+use Rattle.rules.specs.Tick.{repayment, repaid}
+use Rattle.rules.specs.declared.units.Abs.{Abs}
+use Rattle.rules.specs.declared.budget.Row.{Row}
+use Rattle.rules.specs.Laws.Rows.{repayment-most}
+use Rattle.leaf.specs.Fit.{repayment-is-payable}
+use borrow.Author.Needs.{needs}
+use Rattle.leaf.proofs.tick.repaid.Statement.{statement}
+use Rattle.leaf.proofs.tick.repaid.Tie as tie
+
+owes-requires : tie.Need-owes-requires
+owes-requires c κs = search needs
+
+repayment-requires : tie.Need-repayment-requires
+repayment-requires c κs = search needs
+
+sub-t7 : tie.Need-sub-t7
+sub-t7 c = rw (c .before .before .repayment .ensures) (repayment-most _ _)
+
+charged-requires : tie.Need-charged-requires
+charged-requires c κs = rw (c .before .before .repayment .ensures) (repayment-is-payable (c .before .before .before .before .before .pre))
+
+with-debt-requires : tie.Need-with-debt-requires
+with-debt-requires c κs = search needs
+
+pays : (share : ℕ) (row : Row) (p : Abs) (after : Row) → p ≡ repayment share row → after ≡ charged p share row → owes row ≡ true
+    → withDebt (abs (row .debt .0 - p .0)) after ≡ repaid share row
+unfolding repaid
+pays share row p after e f g = rw (f, e, g)
+
+returns : tie.Need-returns
+returns c =
+    let paid = c .before .before .before .before in
+    let asked = paid .before .before in
+    let a = asked .before .args in
+    c .with-debt .ensures
+    ∙ pays (a .share) (a .row) (paid .repayment .result) (c .before .charged .result) (paid .repayment .ensures) (c .before .charged .ensures) (sym (asked .owes .ensures) ∙ paid .before .if1 .taken)
+
+returns-2 : tie.Need-returns-2
+unfolding repaid
+returns-2 c = simp (sym (c .before .owes .ensures) ∙ c .if1 .left)
+
+pub repaid-spec : {M : Type 1} → statement M
+repaid-spec =
+    tie.close
+    (tie.spec
+    owes-requires
+    repayment-requires
+    sub-t7
+    charged-requires
+    with-debt-requires
+    returns
+    returns-2)

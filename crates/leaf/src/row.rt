@@ -1,0 +1,70 @@
+// A leaf's own books: whether it owes, whether a cost fits its budget, and what charging, debt and noting a bio leave.
+ghost use mathlib.Core.Path.{_≡_};
+ghost use Prim.Native.Nat.{_*_, _^_, _<_};
+ghost use Rattle.rules.specs.Budget.{withBudget, withDebt, charged as chargedOf, owes as owesOf, fits as fitsOf, rebudget as rebudgetOf};
+ghost use Rattle.leaf.specs.Fit.{Priced, Payable};
+ghost use Rattle.leaf.specs.Alone.{notedAt};
+use rules::budget::Row;
+use rules::units::Abs;
+use rules::units::Virt;
+
+pub fn owes(row: Row) -> bool
+    ensures { λ r. ⌜ r ≡ owesOf row ⌝ }
+{
+    0 < row.debt.0
+}
+
+// "relative cost <= budget"
+pub fn fits(cost: Abs, share: u64, row: Row) -> bool
+    requires { ⌜ Priced cost share ⌝ }
+    ensures { λ r. ⌜ r ≡ fitsOf cost share row ⌝ }
+{
+    let relative = units::rel_cost(cost, share);
+    relative.0 <= row.budget.0
+}
+
+pub fn with_budget(budget: Virt, mut row: Row) -> Row
+    ensures { λ r. ⌜ r ≡ withBudget budget row ⌝ }
+{
+    row.budget = budget;
+    row
+}
+
+pub fn with_debt(debt: Abs, mut row: Row) -> Row
+    ensures { λ r. ⌜ r ≡ withDebt debt row ⌝ }
+{
+    row.debt = debt;
+    row
+}
+
+// Charged: the budget falls by the relative cost, the usage grows by the absolute one.
+pub fn charged(cost: Abs, share: u64, mut row: Row) -> Row
+    requires { ⌜ Payable cost share row ⌝ }
+    ensures { λ r. ⌜ r ≡ chargedOf cost share row ⌝ }
+{
+    let budget = row.budget;
+    let left = units::spend(budget, units::rel_cost(cost, share));
+    let usage = Abs(row.usage.0 + cost.0);
+    row.budget = left;
+    row.usage = usage;
+    row
+}
+
+// An accepted bio moves the leaf's end.
+pub fn noted(end: u64, mut row: Row) -> Row
+    ensures { λ r. ⌜ r ≡ notedAt end row ⌝ }
+{
+    row.end = end;
+    row.begun = true;
+    row.asked = true;
+    row
+}
+
+// "Whenever a share rises from h to k, .."
+pub fn rebudgeted(h: u64, k: u64, row: Row) -> Row
+    requires { ⌜ row .budget .0 * h < 2 ^ 64 ⌝ }
+    ensures { λ r. ⌜ r ≡ withBudget (rebudgetOf h k (row .budget)) row ⌝ }
+{
+    let budget = row.budget;
+    with_budget(units::rebudget(h, k, budget), row)
+}
