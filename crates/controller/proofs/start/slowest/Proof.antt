@@ -1,0 +1,17 @@
+-- `slowest` meets its contract: the prices are those of the slowest rates.
+-- Assumes nothing.
+use borrow.Author.Needs.{needs}
+use mathlib.Core.Path.{refl}
+use Rattle.rules.specs.Units.{CEIL}
+use Rattle.rules.specs.Cost.{pageCost, baseCost, priceOf, priced}
+use Rattle.controller.proofs.start.slowest.Statement.{statement}
+use Rattle.controller.proofs.start.slowest.Tie as tie
+use Rattle.controller.proofs.start.slowest.Reads as reads
+use Rattle.controller.proofs.start.slowest.Lts as lts
+
+returns : tie.Need-returns
+unfolding priced priceOf pageCost baseCost CEIL
+returns c = refl
+
+pub slowest-spec : {M : Type 1} → statement M
+slowest-spec = tie.close (tie.spec returns)

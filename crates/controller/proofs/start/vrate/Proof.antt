@@ -1,0 +1,27 @@
+-- `vrate` meets its contract: the one check of the rule decides.
+-- Assumes nothing.
+use borrow.Author.Needs.{needs}
+use mathlib.Core.Path.{_≡_, refl, sym, _∙_}
+use mathlib.Core.Bool.{true, false}
+use Rattle.rules.specs.Plan.{vrateInRange}
+use Rattle.rules.specs.Refusals.{vrateChecks}
+use Rattle.rules.specs.Entries.{vrated, vratedBy}
+use Rattle.controller.proofs.start.vrate.Statement.{statement}
+use Rattle.controller.proofs.start.vrate.Tie as tie
+use Rattle.controller.proofs.start.vrate.Reads as reads
+use Rattle.controller.proofs.start.vrate.Lts as lts
+use Rattle.controller.proofs.start.in_range.Reads as in-range-reads
+
+in-range-requires : tie.Need-in-range-requires
+in-range-requires c κs = search needs
+
+returns : tie.Need-returns
+unfolding vrated vratedBy vrateChecks
+returns c = let e : vrateInRange (c .before .before .before .args .v) ≡ true = sym (c .before .before .in-range .ensures) ∙ c .before .if1 .taken in rw e
+
+returns-2 : tie.Need-returns-2
+unfolding vrated vratedBy vrateChecks
+returns-2 c = let e : vrateInRange (c .before .before .args .v) ≡ false = sym (c .before .in-range .ensures) ∙ c .if1 .left in rw e
+
+pub vrate-spec : {M : Type 1} → statement M
+vrate-spec = tie.close (tie.spec in-range-requires returns returns-2)

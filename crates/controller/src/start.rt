@@ -1,0 +1,97 @@
+// Where a controller begins, and its pace: start and vrate.
+ghost use mathlib.Core.Path.{_≡_};
+ghost use Prim.Native.Nat.{ℕ};
+ghost use Rattle.rules.specs.Entries.{started, startedBy, slowestModel, noTree, vrated as vratedOf};
+ghost use Rattle.rules.specs.Budget.{fresh};
+ghost use Rattle.rules.specs.Plan.{vrateInRange};
+use rules::budget::Controller;
+use rules::budget::Outcome;
+use rules::cost::Model;
+use rules::cost::Price;
+use rules::cost::Rates;
+use rules::refusals::Pricing;
+use rules::refusals::Refusal;
+use rules::refusals::Verdict;
+use rules::tree::Tree;
+use rules::units::Abs;
+
+const VRATE_MOST: u16 = 400;
+
+fn slowest() -> Model
+    ensures { λ r. ⌜ r ≡ slowestModel ⌝ }
+{
+    let price = Price {
+        page: Abs(1000000000),
+        sequential: Abs(0),
+        random: Abs(0),
+    };
+    Model {
+        read: price,
+        write: price,
+    }
+}
+
+// What a refused start hands out: a fresh state with no node, which refuses every bio.
+fn leafless() -> Controller
+    ensures { λ r. ⌜ r ≡ fresh noTree slowestModel 0 ⌝ }
+{
+    let tree = Tree {
+        count: 0,
+        parents: [0u8; 64],
+        weights: [0u16; 64],
+    };
+    Controller::new(tree, 0, slowest(), 0)
+}
+
+fn refused(x: Refusal) -> Outcome
+    ensures { λ r. ⌜ ((t : Tree) (s : Rates) (time : ℕ) → r ≡ startedBy (Verdict.Refused x) t s time) ⌝ }
+{
+    Outcome {
+        answer: Verdict::Refused(x),
+        state: leafless(),
+    }
+}
+
+// Start: refusals 1, 2 and 3 in that order, else the fresh state.
+pub fn start(tree: Tree, rates: Rates, time: u64) -> Outcome
+    ensures { λ r. ⌜ r ≡ started tree rates time ⌝ }
+{
+    match tree::check(tree) {
+        Verdict::Refused(x) => refused(x),
+        Verdict::Accepted => match cost::price(rates) {
+            Pricing::Refused(x) => refused(x),
+            Pricing::Priced(model) => {
+                let leaves = tree::nodes::leaves(tree);
+                Outcome {
+                    answer: Verdict::Accepted,
+                    state: Controller::new(tree, leaves, model, time),
+                }
+            }
+        },
+    }
+}
+
+fn in_range(v: u16) -> bool
+    ensures { λ r. ⌜ r ≡ vrateInRange v ⌝ }
+{
+    (1 <= v) & (v <= VRATE_MOST)
+}
+
+// "vrate is set ..": refusal 15, or it holds for later ticks.
+pub fn vrate(mut c: Controller, v: u16) -> Outcome
+    ensures { λ r. ⌜ r ≡ vratedOf v c ⌝ }
+{
+    if in_range(v) {
+        let mut clock = c.clock;
+        clock.vrate = v;
+        c.clock = clock;
+        return Outcome {
+            answer: Verdict::Accepted,
+            state: c,
+        };
+    }
+    Outcome {
+        answer: Verdict::Refused(Refusal::BadVrate),
+        state: c,
+    }
+}
