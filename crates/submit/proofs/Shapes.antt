@@ -1,0 +1,314 @@
+-- The steps of a submission on plain values: what each way out of the code answers is what the rule says there.
+-- Assumes nothing.
+use mathlib.Core.Path.{_≡_, refl, sym, ap, _∙_}
+use mathlib.Core.Bool.{Bool, true, false, cond, _&&_}
+use mathlib.Core.List.{List, [], _∷_, _++_}
+use Prim.Native.Nat.{ℕ, _+_, _*_, _≤_, _<_}
+use native.Mathlib.Nat.{mul-le-mul, le-trans}
+use native.Mathlib.Omega.{arith}
+use borrow.Author.Tests.{le-leb, lt-leb, lt-ltb, le-ltb, leb-false}
+use lib.Dec.{leb}
+use lib.ListN.{length, getD}
+use lib.Seq.{getD-set-same, set-getD}
+use Rattle.rules.specs.Numbers.{nodesMost, queueRoom, costMost, debtMost}
+use Rattle.rules.specs.Words.{has}
+use Rattle.rules.specs.Cost.{endOf, isForced, bioInRange}
+use Rattle.rules.specs.Tree.{isLeaf}
+use Rattle.rules.specs.Budget.{emptyQueue, rowAt, queueAt, shareAt, putLeaf, noted, rebased, reshared, entered, rowAfter, queueAfter, endsDonation, answerIn, applied, settled, submission}
+use Rattle.rules.specs.Refusals.{Check, firstOf, wouldBe, costChecks, roomChecks, submitChecks}
+use Rattle.rules.specs.Entries.{costing, costingBy, submittedBy, submitted}
+use Rattle.rules.specs.Invariant.{worthMost, Sound}
+use Rattle.rules.specs.Laws.Costs.{SoundModel, priced-sound, bio-in-range, costing-costs-exactly-when}
+use Rattle.rules.specs.Laws.Trees.{SoundTree, Within, leaf-last, last-most, leaves-are}
+use Rattle.rules.specs.Laws.Resharing.{Reweighed, active-node, activeWith, activated-is, entering-keeps, entering-reweighs, entered-is-active}
+use Rattle.rules.specs.Laws.Submits.{costIn, put-each, reweighed-debt, reweighed-queue, reweighed-cost}
+use Rattle.rules.specs.declared.units.Abs.{Abs}
+use Rattle.rules.specs.declared.cost.Bio.{Bio}
+use Rattle.rules.specs.declared.cost.Model.{Model}
+use Rattle.rules.specs.declared.tree.Tree.{Tree}
+use Rattle.rules.specs.declared.budget.Row.{Row}
+use Rattle.rules.specs.declared.budget.Queue.{Queue}
+use Rattle.rules.specs.declared.budget.Controller.{Controller}
+use Rattle.rules.specs.declared.budget.Submitted.{Submitted}
+use Rattle.rules.specs.declared.refusals.Refusal.{Refusal}
+use Rattle.rules.specs.declared.refusals.Refusal.the-variants.{NoLeaf, QueueFull, DebtFull}
+use Rattle.rules.specs.declared.refusals.Verdict.{Verdict}
+use Rattle.rules.specs.declared.refusals.Verdict.the-variants.{Accepted, Refused}
+use Rattle.rules.specs.declared.refusals.Costing.{Costing}
+use Rattle.rules.specs.declared.refusals.Costing.the-variants.{Costs, Refused as Uncosted}
+use Rattle.rules.specs.declared.refusals.Answer.{Answer}
+use Rattle.rules.specs.declared.refusals.Answer.the-variants.{Issued, Waits, OnDebt, Refused as Declined}
+use Rattle.leaf.specs.Alone.{some, answerWith, answer-by-count, notedAt, issued-fits}
+use Rattle.leaf.specs.Fit.{Priced, CanTake, HasRoom, active-is-fit, cheap-is-priced}
+use Rattle.submit.specs.Judged.{Ready, CanSettle, judgedBy, judged}
+
+-- ---- refusals 7 and 8
+module _ (a : Answer) (cost : Abs) (row : Row) (n : ℕ) where
+  pub full : a ≡ Waits → queueRoom ≤ n → Refused QueueFull ≡ firstOf (roomChecks a cost row (some n))
+  unfolding roomChecks
+  full e l = rw (e, le-leb queueRoom n l)
+
+  pub place : a ≡ Waits → n < queueRoom → Accepted ≡ firstOf (roomChecks a cost row (some n))
+  unfolding roomChecks
+  place e l = rw (e, lt-leb queueRoom n l)
+
+  pub over : a ≡ OnDebt → debtMost < row .debt .0 + cost .0 → Refused DebtFull ≡ firstOf (roomChecks a cost row (some n))
+  unfolding roomChecks
+  over e l = rw (e, lt-ltb debtMost (row .debt .0 + cost .0) l)
+
+  pub under : a ≡ OnDebt → row .debt .0 + cost .0 ≤ debtMost → Accepted ≡ firstOf (roomChecks a cost row (some n))
+  unfolding roomChecks
+  under e l = rw (e, le-ltb debtMost (row .debt .0 + cost .0) l)
+
+  pub issues : a ≡ Issued → Accepted ≡ firstOf (roomChecks a cost row (some n))
+  unfolding roomChecks
+  issues e = rw e
+
+  pub declines : (x : Refusal) → a ≡ Declined x → Accepted ≡ firstOf (roomChecks a cost row (some n))
+  unfolding roomChecks
+  declines x e = rw e
+
+-- ---- the bio's node
+pub leaf-node : (t : Tree) (n : ℕ) → SoundTree t → isLeaf t n ≡ true → n < nodesMost
+leaf-node t n s leaf = omega (arith, leaf-last t n leaf, last-most s)
+
+pub ready-node : {b : Bio} {cost : Abs} {c : Controller} → Ready b cost c → b .node < nodesMost
+ready-node {b} {cost} {c} r = active-node (r .sound .tree) (c .active) (r .sound .active) (b .node) (r .active)
+
+-- ---- "1. An inactive leaf becomes active .."
+pub stays : (n : ℕ) (c : Controller) → has (c .active) n ≡ true → entered n c ≡ c
+unfolding entered
+stays n c e = rw e
+
+pub wakes : {c : Controller} → Sound c → (n : ℕ) → has (c .active) n ≡ false → entered n c ≡ rebased (activeWith n c) c
+unfolding entered
+wakes {c} s n e = rw e (activated-is n c (s .idle n e .no-budget))
+
+pub woken-within : {c : Controller} → Sound c → (n : ℕ) → isLeaf (c .tree) n ≡ true → has (c .active) n ≡ false → Within (c .tree) (activeWith n c)
+unfolding rebased reshared
+woken-within {c} s n leaf e = (rw (wakes s n e) at (entering-keeps s n leaf)) .active
+
+-- ---- what the code reads at the bio's node
+pub at-node : {m n : ℕ} → m ≡ n → n < nodesMost → m < nodesMost
+at-node e h = rw e h
+
+same-place : {A : Type 0} (l : List A) (n : ℕ) (d e : A) → n < length l → getD l n d ≡ getD l n e
+same-place l n d e h = sym (getD-set-same l n (getD l n d) e h) ∙ ap (λ k. getD k n e) (set-getD l n d)
+
+pub queue-read : {c : Controller} → Sound c → (n : ℕ) → n < nodesMost → getD (c .queues) n (some 0) ≡ queueAt c n
+queue-read {c} s n h = same-place (c .queues) n (some 0) emptyQueue (omega (arith, s .queues-all))
+
+-- ---- the answer on the leaf
+pub can-take : {a : Answer} {b : Bio} {cost : Abs} {c : Controller} {n share : ℕ} → CanSettle a b cost c → n ≡ b .node → share ≡ shareAt c n
+    → CanTake a cost share (rowAt c n)
+can-take {a} {b} {cost} {c} w m s =
+    rw (s, m)
+    (record {
+      books = active-is-fit (w .ready .sound) (b .node) (w .ready .active) .books;
+      cheap = w .ready .cheap;
+      fitting = w .fitting;
+    })
+
+pub has-room : {a : Answer} {b : Bio} {cost : Abs} {c : Controller} {n : ℕ} → CanSettle a b cost c → n ≡ b .node → HasRoom a (getD (c .queues) n (some 0))
+has-room {a} {b} {cost} {c} {n} w m =
+    rw (queue-read (w .ready .sound) n (at-node m (ready-node (w .ready))), m)
+    (record { sound = w .ready .sound .queue (b .node); room = w .place })
+
+pub applies : {a : Answer} {b : Bio} {cost : Abs} {c : Controller} {n end share : ℕ} {taken last : Row} {queued : Queue}
+    → CanSettle a b cost c → n ≡ b .node → share ≡ shareAt c n → end ≡ endOf b
+    → taken ≡ rowAfter a cost share (rowAt c n) → last ≡ notedAt end taken → queued ≡ queueAfter a (b .id) cost (getD (c .queues) n (some 0))
+    → putLeaf n last queued c ≡ applied a b c
+unfolding applied
+applies {a} {b} {cost} {c} {n} w m s e t l q =
+    rw (l, q, t, e, s, queue-read (w .ready .sound) n (at-node m (ready-node (w .ready))), m, w .ready .same)
+
+-- ---- "4. If the bio waited .."
+no-more : (a : Answer) (cost : Abs) (share : ℕ) (r : Row) → rowAfter a cost share r .budget .0 ≤ r .budget .0
+unfolding rowAfter
+no-more Issued cost share r = omega arith
+no-more Waits cost share r = omega arith
+no-more OnDebt cost share r = omega arith
+no-more (Declined x) cost share r = omega arith
+
+pub can-rebase : {a : Answer} {b : Bio} {cost : Abs} {c : Controller} → CanSettle a b cost c
+    → SoundTree (applied a b c .tree) × Within (applied a b c .tree) (c .active)
+    × ((n : ℕ) → rowAt (applied a b c) n .budget .0 * shareAt (applied a b c) n ≤ worthMost)
+unfolding applied
+can-rebase {a} {b} {cost} {c} w =
+    let s : Sound c = w .ready .sound in (
+      s .tree,
+      s .active,
+      put-each (λ k r q. r .budget .0 * shareAt c k ≤ worthMost) (b .node)
+          (noted b (rowAfter a (costIn c b) (shareAt c (b .node)) (rowAt c (b .node)))) (queueAfter a (b .id) (costIn c b) (queueAt c (b .node))) c
+          (s .rows-all) (s .queues-all) (ready-node (w .ready))
+          (le-trans (mul-le-mul (no-more a (costIn c b) (shareAt c (b .node)) (rowAt c (b .node))) (omega arith)) (s .worth-most (b .node)))
+          (λ k e. s .worth-most k),
+    )
+
+module _ (a : Answer) (b : Bio) (c : Controller) {x y : Bool} {n : ℕ} {after : Controller}
+    (p : x ≡ endsDonation a) (q : y ≡ has (c .donors) n) (m : n ≡ b .node) (e : after ≡ applied a b c) where
+  pub ends : {r : Controller} → (x && y) ≡ true → r ≡ rebased (c .active) after → r ≡ settled a b c
+  unfolding settled
+  ends {r} t i = i ∙ rw (← e, ← m, ← q, ← p, t)
+
+  pub goes-on : (x && y) ≡ false → after ≡ settled a b c
+  unfolding settled
+  goes-on t = rw (← e, ← m, ← q, ← p, t)
+
+-- ---- the answer and the verdict, as the code works them out
+pub priced : {b : Bio} {cost : Abs} {c : Controller} {n share : ℕ} → Ready b cost c → n ≡ b .node → share ≡ shareAt c n → Priced cost share
+priced {b} {cost} {c} r m s =
+    rw (s, m) (cheap-is-priced (active-is-fit (r .sound) (b .node) (r .active) .books .held) (r .cheap))
+
+placed : (cost : Abs) (row : Row) (n : ℕ) → firstOf (roomChecks Waits cost row (some n)) ≡ Accepted → n < queueRoom
+unfolding roomChecks
+placed cost row n = go (leb queueRoom n) refl
+  where
+    go : (t : Bool) → leb queueRoom n ≡ t → cond t (Refused QueueFull) Accepted ≡ Accepted → n < queueRoom
+    go true e i = let z : _≡_ {A = ℕ} 0 1 = cc in absurd (omega arith)
+    go false e i = leb-false queueRoom n e
+
+module _ (b : Bio) (cost : Abs) (c : Controller) {n share waiting : ℕ} {forced : Bool} {answer : Answer} {verdict : Verdict}
+    (ready : Ready b cost c) (m : n ≡ b .node) (s : share ≡ shareAt c n) (w : waiting ≡ getD (c .queues) n (some 0) .len) (f : forced ≡ isForced b)
+    (a : answer ≡ answerWith forced cost share (rowAt c n) waiting) (v : verdict ≡ firstOf (roomChecks answer cost (rowAt c n) (some waiting)))
+  where
+    counted : waiting ≡ queueAt c (b .node) .len
+    counted = w ∙ ap (λ (q : Queue). q .len) (queue-read (ready .sound) n (at-node m (ready-node ready))) ∙ ap (λ (k : ℕ). queueAt c k .len) m
+
+    answer-is : answer ≡ answerIn c b
+    unfolding answerIn
+    answer-is =
+        a ∙ rw (f, s, counted, m, ready .same)
+        (sym (answer-by-count (isForced b) (costIn c b) (shareAt c (b .node)) (rowAt c (b .node)) (queueAt c (b .node))))
+
+    verdict-is : verdict ≡ firstOf (roomChecks (answerIn c b) (costIn c b) (rowAt c (b .node)) (queueAt c (b .node)))
+    unfolding roomChecks
+    verdict-is = v ∙ rw (answer-is, counted, m, ready .same)
+
+    pub can-settle : verdict ≡ Accepted → CanSettle answer b cost c
+    can-settle e = record {
+      ready = ready;
+      fitting = λ i. rw (← m, ← s) (issued-fits forced cost share (rowAt c n) waiting (sym a ∙ i));
+      place = λ i. rw (← counted) (placed cost (rowAt c n) waiting (ap (λ (x : Answer). firstOf (roomChecks x cost (rowAt c n) (some waiting))) (sym i) ∙ sym v ∙ e));
+    }
+
+    pub accepts : {state : Controller} → verdict ≡ Accepted → state ≡ settled answer b c
+        → _≡_ {A = Submitted} (record { answer = answer; state = state }) (judged b c)
+    unfolding judged judgedBy
+    accepts e i = rw (i, answer-is) (ap (λ (x : Verdict). judgedBy x b c) (sym e ∙ verdict-is))
+
+    pub refuses : (x : Refusal) → verdict ≡ Refused x → _≡_ {A = Submitted} (record { answer = Declined x; state = c }) (judged b c)
+    unfolding judged judgedBy
+    refuses x e = ap (λ (y : Verdict). judgedBy y b c) (sym e ∙ verdict-is)
+
+-- ---- what the code finds at its own copy of the bio's node
+pub found : (b : Bio) (c : Controller) {n : ℕ} {k x : Costing} → n ≡ b .node → k ≡ costing (c .model) (rowAt c n) b → k ≡ x
+    → costing (c .model) (rowAt c (b .node)) b ≡ x
+found b c m e i = ap (λ (k : ℕ). costing (c .model) (rowAt c k) b) (sym m) ∙ sym e ∙ i
+
+pub leaf-found : (b : Bio) {c : Controller} → Sound c → {n : ℕ} {t v : Bool} → n ≡ b .node → t ≡ has (c .leaves) n → t ≡ v → isLeaf (c .tree) (b .node) ≡ v
+leaf-found b {c} s {n} m e i =
+    ap (isLeaf (c .tree)) (sym m) ∙ sym (leaves-are (s .tree) n) ∙ ap (λ (l : ℕ). has l n) (sym (s .leaves)) ∙ sym e ∙ i
+
+-- ---- the whole: a leaf that wakes has room, and one that was active is judged where it stands
+pub model-is-sound : {c : Controller} → Sound c → SoundModel (c .model)
+model-is-sound s = rw (s .model .same) (priced-sound (s .model .rates) (s .model .valid))
+
+idle-has-room : (a : Answer) (cost : Abs) (row : Row) (q : Queue) → row .debt .0 ≡ 0 → q .len ≡ 0 → cost .0 ≤ costMost
+    → firstOf (roomChecks a cost row q) ≡ Accepted
+unfolding roomChecks
+idle-has-room Issued cost row q d l k = refl
+idle-has-room Waits cost row q d l k = rw (lt-leb queueRoom (q .len) (omega arith))
+idle-has-room OnDebt cost row q d l k = rw (le-ltb debtMost (row .debt .0 + cost .0) (omega arith))
+idle-has-room (Declined x) cost row q d l k = refl
+
+front : (x : Refusal) (ks ls : List Check) → firstOf ks ≡ Refused x → firstOf (ks ++ ls) ≡ Refused x
+front x [] ls e = let z : _≡_ {A = ℕ} 0 1 = cc in absurd (omega arith)
+front x (k ∷ ks) ls e = go (k .holds) e (front x ks ls)
+  where
+    go : (t : Bool) → cond t (Refused (k .refusal)) (firstOf ks) ≡ Refused x → (firstOf ks ≡ Refused x → firstOf (ks ++ ls) ≡ Refused x)
+        → cond t (Refused (k .refusal)) (firstOf (ks ++ ls)) ≡ Refused x
+    go true i h = i
+    go false i h = h i
+
+uncosted : (model : Model) (row : Row) (b : Bio) (x : Refusal) → costing model row b ≡ Uncosted x → firstOf (costChecks model row b) ≡ Refused x
+unfolding costing costingBy
+uncosted model row b x = go (firstOf (costChecks model row b))
+  where
+    go : (v : Verdict) → costingBy v model row b ≡ Uncosted x → v ≡ Refused x
+    go Accepted e = let z : _≡_ {A = ℕ} 0 1 = cc in absurd (omega arith)
+    go (Refused y) e = cc
+
+alike : (b : Bio) (c : Controller) (v : Verdict) → entered (b .node) c ≡ c → judgedBy v b c ≡ submittedBy v b c
+unfolding judgedBy submittedBy submission
+alike b c Accepted t = rw t
+alike b c (Refused x) t = refl
+
+woken-alike : (b : Bio) (c : Controller) → judgedBy Accepted b (entered (b .node) c) ≡ submittedBy Accepted b c
+unfolding judgedBy submittedBy submission
+woken-alike b c = refl
+
+module _ {c : Controller} (s : Sound c) (b : Bio) where
+  pub no-leaf : isLeaf (c .tree) (b .node) ≡ false → _≡_ {A = Submitted} (record { answer = Declined NoLeaf; state = c }) (submitted b c)
+  unfolding submitted submittedBy submitChecks
+  no-leaf e = rw e
+
+  module _ (leaf : isLeaf (c .tree) (b .node) ≡ true) where
+    pub unfit : (x : Refusal) → costing (c .model) (rowAt c (b .node)) b ≡ Uncosted x → _≡_ {A = Submitted} (record { answer = Declined x; state = c }) (submitted b c)
+    unfolding submitted submittedBy submitChecks
+    unfit x e =
+        rw leaf
+        (ap (λ (v : Verdict). submittedBy v b c) (sym (front x (costChecks (c .model) (rowAt c (b .node)) b) _ (uncosted (c .model) (rowAt c (b .node)) b x e))))
+
+    module _ (cost : Abs) (e : costing (c .model) (rowAt c (b .node)) b ≡ Costs cost) where
+      range : bioInRange b ≡ true
+      range = bio-in-range b .1 (costing-costs-exactly-when (c .model) (rowAt c (b .node)) b cost .0 e .0 .0)
+
+      same : cost ≡ costIn c b
+      same = costing-costs-exactly-when (c .model) (rowAt c (b .node)) b cost .0 e .1
+
+      small : costIn c b .0 ≤ costMost
+      small = costing-costs-exactly-when (c .model) (rowAt c (b .node)) b cost .0 e .0 .1
+
+      pub ready-there : {n : ℕ} {d : Controller} → n ≡ b .node → d ≡ entered n c → Ready b cost d
+      ready-there m i =
+          rw (i, m)
+          (record {
+            sound = entering-keeps s (b .node) leaf;
+            active = entered-is-active s (b .node) leaf;
+            range = range;
+            same = same ∙ sym (reweighed-cost (entering-reweighs s (b .node)) b (b .node));
+            cheap = rw same small;
+          })
+
+      first : firstOf (submitChecks b c)
+          ≡ firstOf (roomChecks (wouldBe c b) (costIn c b) (rowAt c (b .node)) (queueAt c (b .node)))
+      unfolding submitChecks costChecks
+      first = rw (leaf, range, le-ltb costMost (costIn c b .0) small)
+
+      in-place : has (c .active) (b .node) ≡ true → judged b (entered (b .node) c) ≡ submitted b c
+      unfolding judged submitted wouldBe
+      in-place on =
+          let there : entered (b .node) c ≡ c = stays (b .node) c on in
+          ap (judged b) there ∙ alike b c (firstOf (roomChecks (answerIn c b) (costIn c b) (rowAt c (b .node)) (queueAt c (b .node)))) there
+          ∙ ap (λ (v : Verdict). submittedBy v b c) (rw (first, there))
+
+      woken : has (c .active) (b .node) ≡ false → judged b (entered (b .node) c) ≡ submitted b c
+      unfolding judged submitted
+      woken off =
+          let d : Controller = entered (b .node) c in
+          let w : Reweighed c d = entering-reweighs s (b .node) in
+          let here = s .idle (b .node) off in
+          ap (λ (v : Verdict). judgedBy v b d)
+          (idle-has-room (answerIn d b) (costIn d b) (rowAt d (b .node)) (queueAt d (b .node)) (reweighed-debt w (b .node) ∙ here .no-debt)
+          (ap (λ (q : Queue). q .len) (reweighed-queue w (b .node)) ∙ here .no-waiter) (rw (reweighed-cost w b (b .node)) small))
+          ∙ woken-alike b c
+          ∙ ap (λ (v : Verdict). submittedBy v b c)
+          (sym (first ∙ idle-has-room (wouldBe c b) (costIn c b) (rowAt c (b .node)) (queueAt c (b .node)) (here .no-debt) (here .no-waiter) small))
+
+      pub submits : {n : ℕ} {d : Controller} {r : Submitted} → n ≡ b .node → d ≡ entered n c → r ≡ judged b d → r ≡ submitted b c
+      submits {n} {d} m i j = j ∙ rw (i, m) (go (has (c .active) (b .node)) refl)
+        where
+          go : (t : Bool) → has (c .active) (b .node) ≡ t → judged b (entered (b .node) c) ≡ submitted b c
+          go true on = in-place on
+          go false off = woken off
