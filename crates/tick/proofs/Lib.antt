@@ -1,0 +1,4 @@
+pub mod Clocks
+pub mod Lent
+pub mod Going
+pub mod Answers

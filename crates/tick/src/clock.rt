@@ -1,0 +1,71 @@
+// The clock alone: by how much virtual time grows, the clock afterwards, and which times it refuses. Nothing else in a
+// tick knows how growth is worked out.
+ghost use mathlib.Core.Path.{_≡_};
+ghost use Rattle.rules.specs.Tick.{growth as growthOf, advanced as advancedOf};
+ghost use Rattle.rules.specs.Refusals.{firstOf};
+ghost use Rattle.rules.specs.Invariant.{SoundClock};
+ghost use Rattle.tick.specs.Clocks.{clockChecks, Near};
+use rules::budget::Clock;
+use rules::refusals::Refusal;
+use rules::refusals::Verdict;
+use rules::units::Virt;
+
+// Refusals 10, 11 and 12: the most that may pass in one tick, and the most that virtual time and E may reach.
+const ELAPSED_MOST: u64 = 1000000000;
+
+const VTIME_MOST: u64 = 1152921504606846976;
+
+const SINCE_MOST: u64 = 8589934592;
+
+fn wide(x: u16) -> u64
+    ensures { λ r. ⌜ r ≡ x ⌝ }
+{
+    x as u64
+}
+
+// "virtual time grows by .."
+pub fn growth(clock: Clock, time: u64) -> Virt
+    requires { ⌜ Near time clock ⌝ }
+    ensures { λ r. ⌜ r ≡ growthOf clock time ⌝ }
+{
+    let elapsed = time - clock.time;
+    let grown = elapsed * wide(clock.vrate) / 100;
+    Virt(grown)
+}
+
+// The clock at the new time, of which the growth is known.
+pub fn advanced(time: u64, clock: Clock, grown: Virt) -> Clock
+    requires { ⌜ Near time clock × (grown ≡ growthOf clock time) ⌝ }
+    ensures { λ r. ⌜ r ≡ advancedOf time clock ⌝ }
+{
+    let vtime = clock.vtime.0;
+    let since = clock.since.0;
+    let more = grown.0;
+    Clock {
+        time,
+        vtime: Virt(vtime + more),
+        since: Virt(since + more),
+        vrate: clock.vrate,
+    }
+}
+
+// Refusals 9 to 12. Times are compared by their difference: a time may be any u64.
+pub fn verdict(clock: Clock, time: u64) -> Verdict
+    requires { ⌜ SoundClock clock ⌝ }
+    ensures { λ r. ⌜ r ≡ firstOf (clockChecks time clock) ⌝ }
+{
+    if time < clock.time {
+        return Verdict::Refused(Refusal::TimeBack);
+    }
+    if ELAPSED_MOST < time - clock.time {
+        return Verdict::Refused(Refusal::TimeFar);
+    }
+    let grown = growth(clock, time);
+    if VTIME_MOST < clock.vtime.0 + grown.0 {
+        return Verdict::Refused(Refusal::ClockFull);
+    }
+    if SINCE_MOST < clock.since.0 + grown.0 {
+        return Verdict::Refused(Refusal::PlanDue);
+    }
+    Verdict::Accepted
+}

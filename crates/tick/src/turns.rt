@@ -1,0 +1,47 @@
+// The leaves' turns in an accepted tick: active leaves by rising number, each lent the rest of the release buffer behind
+// the ids already written. An inactive leaf's row and queue are not touched.
+ghost use mathlib.Core.Path.{_≡_};
+ghost use lib.ListN.{length};
+ghost use Rattle.rules.specs.Entries.{tickedBy, lentBy};
+ghost use Rattle.rules.specs.Invariant.{Sound};
+ghost use Rattle.rules.specs.Laws.Passes.{TickPasses};
+ghost use Rattle.rules.specs.declared.refusals.Verdict.the-variants.{Accepted};
+use crate::clock;
+use rules::budget::Controller;
+use rules::budget::Ticked;
+use rules::refusals::Count;
+
+fn wide(x: u32) -> u64
+    ensures { λ r. ⌜ r ≡ x ⌝ }
+{
+    x as u64
+}
+
+// "Then for each active ..": its turn, with the buffer lent from `at` on. `at` is how many ids stand
+// before it, and at the end the answer.
+pub fn accepted(mut c: Controller, time: u64, out: &mut [u32]) -> Ticked
+    requires { ⌜ Sound c × TickPasses time (length (now out)) c ⌝ }
+    ensures { λ r. ⌜ (r ≡ tickedBy Accepted time c) × (now (out .exit) ≡ lentBy Accepted time (now (out .entry)) c) ⌝ }
+{
+    let gain = clock::growth(c.clock, time);
+    let mut at: usize = 0;
+    for n in 1..64usize {
+        if sets::has(c.active, n) {
+            let share = wide(c.shares[n]);
+            let row = c.rows[n];
+            let queue = c.queues[n];
+            let turned = leaf::tick::turn(gain, share, row, queue, &mut out[at..]);
+            let row = turned.row;
+            let queue = turned.queue;
+            c.rows[n] = row;
+            c.queues[n] = queue;
+            at += turned.count;
+        }
+    }
+    let clock = clock::advanced(time, c.clock, gain);
+    c.clock = clock;
+    Ticked {
+        answer: Count::Released(at),
+        state: c,
+    }
+}
