@@ -1,0 +1,83 @@
+-- What the turns of the loops rest on: a set that is built node by node, how many wait at a place, and how large a target is.
+-- Assumes nothing.
+use mathlib.Core.Path.{_≡_, refl, sym, ap, _∙_}
+use mathlib.Core.Bool.{Bool, true, false, _||_}
+use mathlib.Core.List.{List, [], _∷_}
+use mathlib.Core.Logic.{⊎-elim, dite}
+use Prim.Native.Nat.{ℕ, zero, suc, _+_, _^_, _≤_, _<_}
+use native.Mathlib.Nat.{add-zero, lt-of-not-le, le-of-suc-le-suc, lt-of-lt-of-le, eq-or-lt-of-le}
+use native.Mathlib.Numerals.{add-one}
+use native.Mathlib.Decide.{decLt}
+use native.Mathlib.Omega.{arith}
+use lib.Dec.{eqb}
+use lib.ListN.{getD}
+use lib.Pow.{pow-mono}
+use borrow.Author.Tests.{eq-eqb, ne-eqb}
+use Rattle.rules.specs.Numbers.{WHOLE, nodesMost}
+use Rattle.rules.specs.Words.{has, setTo, setOf}
+use Rattle.rules.specs.Budget.{emptyQueue}
+use Rattle.rules.specs.Plan.{usedShare, targetOf}
+use Rattle.rules.specs.Laws.Bools.{or-right, or-neither}
+use Rattle.rules.specs.Laws.Sets.{set-small, set-ext, has-set, has-past, has-setOf}
+use Rattle.rules.specs.Laws.Units.{ceil-least}
+use Rattle.leaf.specs.Alone.{some}
+use Rattle.rules.specs.declared.units.Abs.{Abs}
+use Rattle.rules.specs.declared.units.Virt.{Virt}
+use Rattle.rules.specs.declared.budget.Queue.{Queue}
+
+or-nothing : (a b : Bool) → b ≡ false → (a || b) ≡ a
+or-nothing true b e = refl
+or-nothing false b e = e
+
+module _ (p : ℕ → Bool) (s n : ℕ) (e : s ≡ setTo p n) where
+  -- a node that is left out
+  pub left-out : p n ≡ false → s ≡ setTo p (n + 1)
+  unfolding setTo
+  left-out f = rw (add-one n, f) (e ∙ sym (add-zero (setTo p n)))
+
+  -- a node that is put in
+  module _ (node : n < nodesMost) (f : p n ≡ true) where
+    below : (k : ℕ) → k < n → (has s k || eqb k n) ≡ has (setTo p (n + 1)) k
+    below k l =
+        or-nothing (has s k) (eqb k n) (ne-eqb k n (λ z. omega arith))
+        ∙ ap (λ (t : ℕ). has t k) e
+        ∙ has-set p n k l
+        ∙ sym (has-set p (n + 1) k (omega arith))
+
+    here : (k : ℕ) → k ≡ n → (has s k || eqb k n) ≡ has (setTo p (n + 1)) k
+    here k i =
+        or-right (has s k) (eqb k n) (eq-eqb k n i)
+        ∙ sym (has-set p (n + 1) k (omega arith) ∙ ap p i ∙ f)
+
+    above : (k : ℕ) → n < k → (has s k || eqb k n) ≡ has (setTo p (n + 1)) k
+    above k l =
+        or-neither (has s k) (eqb k n) (ap (λ (t : ℕ). has t k) e ∙ has-past p n k (omega arith)) (ne-eqb k n (λ z. omega arith))
+        ∙ sym (has-past p (n + 1) k (omega arith))
+
+    each : (k : ℕ) → (has s k || eqb k n) ≡ has (setTo p (n + 1)) k
+    each k =
+        dite (decLt k n) (λ (l : k < n). below k l)
+        (λ g. let m : n ≤ k = le-of-suc-le-suc (lt-of-not-le g) in
+        ⊎-elim (λ (i : n ≡ k). here k (sym i)) (λ (l : n < k). above k l) (eq-or-lt-of-le m))
+
+    pub put-in : setOf (λ k. has s k || eqb k n) ≡ setTo p (n + 1)
+    put-in =
+        let last : n + 1 ≤ nodesMost = omega arith in
+        set-ext (setOf (λ k. has s k || eqb k n)) (setTo p (n + 1)) nodesMost (set-small (λ k. has s k || eqb k n) nodesMost)
+        (lt-of-lt-of-le (set-small p (n + 1)) (pow-mono last))
+        (λ k h. has-setOf (λ j. has s j || eqb j n) k h ∙ each k)
+
+-- no bio waits past the last queue, whatever else stands there
+pub waiting-at : (queues : List Queue) (n : ℕ) → getD queues n (some 0) .len ≡ getD queues n emptyQueue .len
+waiting-at [] n = refl
+waiting-at (q ∷ queues) zero = refl
+waiting-at (q ∷ queues) (suc n) = waiting-at queues n
+
+-- a leaf used the whole share at most, and its target is a quarter more
+used-most : (since : Virt) (usage : Abs) → 0 < since .0 → usedShare since usage ≤ WHOLE
+unfolding usedShare
+used-most since usage some = ceil-least _ (since .0) WHOLE some (omega arith)
+
+pub target-fits : (since : Virt) (usage : Abs) → 0 < since .0 → targetOf since usage < 2 ^ 32
+unfolding targetOf
+target-fits since usage some = omega (arith, used-most since usage some)
