@@ -1,0 +1,73 @@
+-- `trace::layout::kind_of` meets its contract, by the variants of a record. Assumes nothing.
+use Rattle.rules.specs.Trace.{kindOf}
+use borrow.Author.Needs.{needs}
+use Rattle.trace.proofs.layout.kind_of.Statement.{statement}
+use Rattle.trace.proofs.layout.kind_of.Tie as tie
+
+enum-told : tie.Need-enum-told
+enum-told c = search needs
+
+enum-told-2 : tie.Need-enum-told-2
+enum-told-2 c = search needs
+
+enum-told-3 : tie.Need-enum-told-3
+enum-told-3 c = search needs
+
+enum-told-4 : tie.Need-enum-told-4
+enum-told-4 c = search needs
+
+enum-told-5 : tie.Need-enum-told-5
+enum-told-5 c = search needs
+
+enum-told-6 : tie.Need-enum-told-6
+enum-told-6 c = search needs
+
+enum-told-7 : tie.Need-enum-told-7
+enum-told-7 c = search needs
+
+returns : tie.Need-returns
+unfolding kindOf
+returns c = search needs
+
+returns-2 : tie.Need-returns-2
+unfolding kindOf
+returns-2 c = search needs
+
+returns-3 : tie.Need-returns-3
+unfolding kindOf
+returns-3 c = search needs
+
+returns-4 : tie.Need-returns-4
+unfolding kindOf
+returns-4 c = search needs
+
+returns-5 : tie.Need-returns-5
+unfolding kindOf
+returns-5 c = search needs
+
+returns-6 : tie.Need-returns-6
+unfolding kindOf
+returns-6 c = search needs
+
+returns-7 : tie.Need-returns-7
+unfolding kindOf
+returns-7 c = search needs
+
+pub kind-of-spec : {M : Type 1} → statement M
+kind-of-spec =
+    tie.close
+    (tie.spec
+    enum-told
+    enum-told-2
+    enum-told-3
+    enum-told-4
+    enum-told-5
+    enum-told-6
+    enum-told-7
+    returns
+    returns-2
+    returns-3
+    returns-4
+    returns-5
+    returns-6
+    returns-7)

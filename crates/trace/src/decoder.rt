@@ -1,0 +1,102 @@
+// The decoder: what stands at a place of a trace, by the layouts of the rules.
+use crate::layout;
+use rules::cost::Bio;
+use rules::cost::Rates;
+use rules::refusals::Refusal;
+use rules::trace::Read;
+use rules::trace::Record;
+ghost use mathlib.Core.Bool.{true};
+ghost use mathlib.Core.Path.{_≡_};
+ghost use Prim.Native.Nat.{_+_, _≤_, _<_, _^_};
+ghost use lib.ListN.{length, take, drop};
+ghost use Rattle.rules.specs.Trace.{numberOf, isKind, layout, total, fieldsFrom, recordOf, ratesOf, bioOf, readAt};
+
+// "numbers little-endian": the bytes of a number are taken from the last, which counts most, down to the first.
+fn number(bytes: &[u8], at: usize, width: usize) -> u64
+    requires { ⌜ (at + width ≤ length (now bytes)) × (width ≤ 8) ⌝ }
+    ensures { λ r. ⌜ (r ≡ numberOf (take width (drop at (now (bytes .entry))))) × (r < 256 ^ width) ⌝ }
+{
+    let mut left = width;
+    let mut n: u64 = 0;
+    while 0 < left {
+        left -= 1;
+        n = n * 256 + wide(bytes[at + left]);
+    }
+    n
+}
+
+// A byte as a number, with the bound that its type gives it.
+fn wide(x: u8) -> u64
+    ensures { λ r. ⌜ (r ≡ x) × (r < 256) ⌝ }
+{
+    x as u64
+}
+
+// "2 model (six 8-byte .."
+fn rates_at(trace: &[u8], body: usize) -> Rates
+    requires { ⌜ body + total (layout 2) ≤ length (now trace) ⌝ }
+    ensures { λ r. ⌜ r ≡ ratesOf (fieldsFrom (layout 2) (drop body (now (trace .entry)))) ⌝ }
+{
+    Rates {
+        rbps: number(trace, body, 8),
+        rseqiops: number(trace, body + 8, 8),
+        rrandiops: number(trace, body + 16, 8),
+        wbps: number(trace, body + 24, 8),
+        wseqiops: number(trace, body + 32, 8),
+        wrandiops: number(trace, body + 40, 8),
+    }
+}
+
+// "4 bio (node 1 .."
+fn bio_at(trace: &[u8], body: usize) -> Bio
+    requires { ⌜ body + total (layout 4) ≤ length (now trace) ⌝ }
+    ensures { λ r. ⌜ r ≡ bioOf (fieldsFrom (layout 4) (drop body (now (trace .entry)))) ⌝ }
+{
+    Bio {
+        node: trace[body],
+        flags: trace[body + 1],
+        id: number(trace, body + 2, 4) as u32,
+        sector: number(trace, body + 6, 8),
+        bytes: number(trace, body + 14, 4) as u32,
+    }
+}
+
+// The record of a known kind whose body is whole.
+fn record_at(trace: &[u8], body: usize, kind: u8) -> Record
+    requires { ⌜ (isKind kind ≡ true) × (body + total (layout kind) ≤ length (now trace)) ⌝ }
+    ensures { λ r. ⌜ r ≡ recordOf kind (fieldsFrom (layout kind) (drop body (now (trace .entry)))) ⌝ }
+{
+    match kind {
+        1 => Record::Node(trace[body], number(trace, body + 1, 2) as u16),
+        2 => Record::Model(rates_at(trace, body)),
+        3 => Record::Start(number(trace, body, 8)),
+        4 => Record::Bio(bio_at(trace, body)),
+        5 => Record::Tick(number(trace, body, 8)),
+        6 => Record::Plan,
+        _ => Record::Vrate(number(trace, body, 2) as u16),
+    }
+}
+
+// "At the end it ..": any trace and any place have an answer.
+pub fn read_at(trace: &[u8], at: usize) -> Read
+    ensures { λ r. ⌜ r ≡ readAt (now (trace .entry)) at ⌝ }
+{
+    if trace.len() < at {
+        return Read::Refused(Refusal::CutShort);
+    }
+    if at == trace.len() {
+        return Read::End;
+    }
+    let kind = trace[at];
+    if !layout::is_kind(kind) {
+        return Read::Refused(Refusal::UnknownKind);
+    }
+    let body = at + 1;
+    let len = layout::body_len(kind);
+    if len <= trace.len() - body {
+        let next = body + len;
+        Read::Found(record_at(trace, body, kind), next)
+    } else {
+        Read::Refused(Refusal::CutShort)
+    }
+}

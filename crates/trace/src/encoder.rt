@@ -1,0 +1,100 @@
+// The encoder: a record's bytes in front of a lent buffer, by the layouts of the rules.
+use crate::layout;
+use rules::cost::Bio;
+use rules::cost::Rates;
+use rules::refusals::Refusal;
+use rules::trace::Record;
+use rules::trace::Write;
+ghost use mathlib.Core.Path.{_≡_};
+ghost use Prim.Native.Nat.{_+_, _≤_};
+ghost use lib.ListN.{length};
+ghost use Rattle.rules.specs.Trace.{bytesOf, layout, total, kindOf, fieldsOf, bodyOf, Fits, writing, writtenTo};
+ghost use Rattle.trace.specs.Laid.{laid};
+
+// "numbers little-endian": the least byte first.
+fn put(lent: &mut [u8], at: usize, width: usize, number: u64)
+    requires { ⌜ at + width ≤ length (now lent) ⌝ }
+    ensures { λ _. ⌜ now (lent .exit) ≡ laid (bytesOf width number) at (now (lent .entry)) ⌝ }
+{
+    let mut left = number;
+    let mut i = 0;
+    while i < width {
+        lent[at + i] = (left % 256) as u8;
+        left = left / 256;
+        i += 1;
+    }
+}
+
+// "2 model (six 8-byte .."
+fn put_rates(rates: Rates, lent: &mut [u8])
+    requires { ⌜ 1 + total (layout 2) ≤ length (now lent) ⌝ }
+    ensures { λ _. ⌜ now (lent .exit) ≡ laid (bodyOf (layout 2) (fieldsOf (Record.Model rates))) 1 (now (lent .entry)) ⌝ }
+{
+    put(lent, 1, 8, rates.rbps);
+    put(lent, 9, 8, rates.rseqiops);
+    put(lent, 17, 8, rates.rrandiops);
+    put(lent, 25, 8, rates.wbps);
+    put(lent, 33, 8, rates.wseqiops);
+    put(lent, 41, 8, rates.wrandiops);
+}
+
+// "4 bio (node 1 .."
+fn put_bio(bio: Bio, lent: &mut [u8])
+    requires { ⌜ 1 + total (layout 4) ≤ length (now lent) ⌝ }
+    ensures { λ _. ⌜ now (lent .exit) ≡ laid (bodyOf (layout 4) (fieldsOf (Record.Bio bio))) 1 (now (lent .entry)) ⌝ }
+{
+    put(lent, 1, 1, bio.node as u64);
+    put(lent, 2, 1, bio.flags as u64);
+    put(lent, 3, 4, bio.id as u64);
+    put(lent, 7, 8, bio.sector);
+    put(lent, 15, 4, bio.bytes as u64);
+}
+
+// "then a body whose .."
+fn put_body(r: Record, lent: &mut [u8])
+    requires { ⌜ 1 + total (layout (kindOf r)) ≤ length (now lent) ⌝ }
+    ensures { λ _. ⌜ now (lent .exit) ≡ laid (bodyOf (layout (kindOf r)) (fieldsOf r)) 1 (now (lent .entry)) ⌝ }
+{
+    match r {
+        Record::Node(parent, weight) => {
+            put(lent, 1, 1, parent as u64);
+            put(lent, 2, 2, weight as u64);
+        }
+        Record::Model(rates) => put_rates(rates, lent),
+        Record::Start(time) => put(lent, 1, 8, time),
+        Record::Bio(bio) => put_bio(bio, lent),
+        Record::Tick(time) => put(lent, 1, 8, time),
+        Record::Plan => {}
+        Record::Vrate(vrate) => put(lent, 1, 2, vrate as u64),
+    }
+}
+
+// "The writer writes any .."
+pub fn write_to(r: Record, lent: &mut [u8]) -> Write
+    ensures { λ w. ⌜ (w ≡ writing r (now (lent .entry))) × (now (lent .exit) ≡ writtenTo r (now (lent .entry))) ⌝ }
+{
+    let kind = layout::kind_of(r);
+    let len = layout::body_len(kind) + 1;
+    if lent.len() < len {
+        return Write::Refused(Refusal::ShortBuffer);
+    }
+    lent[0] = kind;
+    put_body(r, lent);
+    Write::Wrote(len)
+}
+
+// "any record whose numbers ..": that is every record, by the types of its fields. It does nothing; a
+// caller learns from it that what it writes reads back.
+pub fn fits(r: Record)
+    ensures { λ _. ⌜ Fits r ⌝ }
+{
+    match r {
+        Record::Node(parent, weight) => {}
+        Record::Model(rates) => {}
+        Record::Start(time) => {}
+        Record::Bio(bio) => {}
+        Record::Tick(time) => {}
+        Record::Plan => {}
+        Record::Vrate(vrate) => {}
+    }
+}
