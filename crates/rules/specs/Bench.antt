@@ -1,23 +1,25 @@
 -- Numbers on the bench: B1 to B12, shown of the rules themselves by one fact over a single list, the edges of every number by
--- another, and the whole case of a trace.
+-- another, the whole case of a trace, and a run of calls from a fresh start with answers of every kind.
 -- Assumes nothing.
 use mathlib.Core.Path.{_≡_, refl}
 use mathlib.Core.Bool.{Bool, true, false, cond, _&&_}
 use mathlib.Core.List.{List, [], _∷_, _++_}
 use Prim.Native.Nat.{ℕ, _+_, _-_, _^_}
 use lib.Dec.{eqb}
-use lib.ListN.{getD, replicate}
+use lib.ListN.{getD, replicate, take}
+use Rattle.rules.specs.Demand3.Ledger.{Call, after}
+use Rattle.rules.specs.Numbers.{nodesMost}
 use Rattle.rules.specs.Words.{sumTo, anyTo, joinTo, tableFrom, has, setTo, setOf, none}
 use Rattle.rules.specs.Units.{abs, virt, CEIL, relative, repayable, atWhole}
 use Rattle.rules.specs.Cost.{bpsInRange, iopsInRange, ratesInRange, pageCost, baseCost, priceOf, priced, bytesInRange, sectorInRange, flagsInRange, bioInRange, isWrite, isForced, isNear, isSequential, endOf, costAt, costOf}
 use Rattle.rules.specs.Tree.{parent, weight, last, levelIn, level, countInRange, weightInRange, nodeFault, faultTo, treeFault, newestFault, isLeaf, leavesOf, onWayIn, onWay, isActive, childSum, shareIn, shareOf, baseShare, baseShares, isThin}
-use Rattle.rules.specs.Budget.{emptyQueue, emptyRow, fresh, rowAt, queueAt, shareAt, putLeaf, withBudget, rebudget, reshared, rebased, activated, entered, answerTo, rowAfter, queueAfter, endsDonation, answerIn, applied, settled, submission}
+use Rattle.rules.specs.Budget.{emptyQueue, emptyRow, fresh, rowAt, queueAt, shareAt, withClock, putLeaf, withBudget, rebudget, reshared, rebased, activated, entered, answerTo, rowAfter, queueAfter, endsDonation, answerIn, applied, settled, submission}
 use Rattle.rules.specs.Tick.{growth, advanced, repayment, repaid, releaseIn, released, capped, turn, turnOf, releases, lentAfter, tick, waitingAll}
 use Rattle.rules.specs.Plan.{usageAll, isQuiet, forgiveness, usedShare, targetOf, isDonor, isTaker, isDonation, sumOver, takenOf, isLowest, remainder, shareGiven, donated, quietIn, activeAfter, targetsIn, donorsIn, closed, shared, plan, vrateInRange}
-use Rattle.rules.specs.Refusals.{Check, firstOf, isFault, verdictNumber, wouldBe, treeChecks, nodeChecks, rateChecks, startChecks, costChecks, roomChecks, submitChecks, tickChecks, planChecks, vrateChecks}
+use Rattle.rules.specs.Refusals.{Check, firstOf, isFault, verdictNumber, readNumber, writeNumber, wouldBe, treeChecks, nodeChecks, rateChecks, startChecks, costChecks, roomChecks, submitChecks, tickChecks, planChecks, vrateChecks}
 use Rattle.rules.specs.Entries.{treeVerdict, costing, costingBy, started, startedBy, submitted, submittedBy, ticked, tickedBy, lentBy, lentOf, planned, plannedBy, vrated, vratedBy}
-use Rattle.rules.specs.Trace.{bytesOf, numberOf, isKind, layout, kindOf, fieldsOf, recordOf, bodyOf, recordBytes, fieldsFrom, behind, readKind, readAt}
-use Rattle.rules.specs.Replay.{digits, digitsIn, line, refusalLine, answerLine, tickLines, shareLines, planLines, verdictLines, inPhase, nodeStep, modelStep, startStep, recordStep, readStep, nextPlace, stepped, replayFrom, replay}
+use Rattle.rules.specs.Trace.{bytesOf, numberOf, isKind, layout, kindOf, fieldsOf, recordOf, bodyOf, recordBytes, writing, fieldsFrom, behind, readKind, readAt}
+use Rattle.rules.specs.Replay.{digits, digitsIn, line, refusalLine, answerLine, tickLines, shareLines, planLines, verdictLines, inPhase, beginning, nodeStep, modelStep, startStep, recordStep, readStep, nextPlace, stepped, replayFrom, replay}
 use Rattle.rules.specs.declared.units.Abs.{Abs}
 use Rattle.rules.specs.declared.cost.Rates.{Rates}
 use Rattle.rules.specs.declared.cost.Price.{Price}
@@ -31,13 +33,19 @@ use Rattle.rules.specs.declared.budget.Controller.{Controller}
 use Rattle.rules.specs.declared.refusals.Costing.{Costing}
 use Rattle.rules.specs.declared.refusals.Costing.the-variants.{Costs, Refused as Uncosted}
 use Rattle.rules.specs.declared.refusals.Answer.{Answer}
-use Rattle.rules.specs.declared.refusals.Answer.the-variants.{Waits, OnDebt}
+use Rattle.rules.specs.declared.refusals.Answer.the-variants.{Issued, Waits, OnDebt, Refused as Declined}
+use Rattle.rules.specs.declared.refusals.Count.{Count}
+use Rattle.rules.specs.declared.refusals.Count.the-variants.{Released, Refused as Unticked}
+use Rattle.rules.specs.declared.refusals.Verdict.{Verdict}
+use Rattle.rules.specs.declared.refusals.Verdict.the-variants.{Accepted, Refused}
+use Rattle.rules.specs.declared.refusals.Refusal.the-variants.{NoLeaf, BadBio, TooDear, QueueFull, DebtFull, TimeBack, TimeFar, ClockFull, PlanDue, FewPlaces, NothingPassed, BadVrate}
 use Rattle.rules.specs.declared.trace.Record.{Record}
 use Rattle.rules.specs.declared.trace.Record.the-variants.{Node, Model as ModelOf, Start, Bio as BioOf, Tick, Plan}
+use Rattle.rules.specs.declared.replay.Phase.the-variants.{Setup, Priced, Running}
 
 -- every rule that the checker computes below: to unfold this is to unfold them all
 computed : Unit {0}
-unfolding sumTo anyTo joinTo tableFrom has setTo CEIL relative repayable atWhole bpsInRange iopsInRange ratesInRange pageCost baseCost priceOf priced bytesInRange sectorInRange flagsInRange bioInRange isWrite isForced isNear isSequential endOf costAt costOf parent weight last levelIn level countInRange weightInRange nodeFault faultTo treeFault isLeaf leavesOf onWayIn onWay isActive childSum shareIn shareOf baseShare baseShares isThin rebudget reshared rebased activated entered answerTo rowAfter queueAfter endsDonation answerIn applied settled submission growth advanced repayment repaid releaseIn released capped turn turnOf releases tick waitingAll usageAll isQuiet forgiveness usedShare targetOf isDonor isTaker isDonation sumOver takenOf isLowest remainder shareGiven donated quietIn activeAfter targetsIn donorsIn closed shared plan wouldBe treeChecks costChecks roomChecks submitChecks tickChecks planChecks treeVerdict costing costingBy submitted submittedBy ticked tickedBy planned plannedBy digits digitsIn line refusalLine answerLine bytesOf numberOf isKind layout kindOf fieldsOf recordOf bodyOf recordBytes fieldsFrom behind readKind readAt rateChecks vrateChecks vrateInRange lentBy lentOf lentAfter vrated vratedBy tickLines shareLines planLines verdictLines inPhase newestFault nodeChecks nodeStep modelStep startChecks startedBy started startStep recordStep readStep nextPlace stepped replayFrom replay
+unfolding sumTo anyTo joinTo tableFrom has setTo CEIL relative repayable atWhole bpsInRange iopsInRange ratesInRange pageCost baseCost priceOf priced bytesInRange sectorInRange flagsInRange bioInRange isWrite isForced isNear isSequential endOf costAt costOf parent weight last levelIn level countInRange weightInRange nodeFault faultTo treeFault isLeaf leavesOf onWayIn onWay isActive childSum shareIn shareOf baseShare baseShares isThin rebudget reshared rebased activated entered answerTo rowAfter queueAfter endsDonation answerIn applied settled submission growth advanced repayment repaid releaseIn released capped turn turnOf releases tick waitingAll usageAll isQuiet forgiveness usedShare targetOf isDonor isTaker isDonation sumOver takenOf isLowest remainder shareGiven donated quietIn activeAfter targetsIn donorsIn closed shared plan wouldBe treeChecks costChecks roomChecks submitChecks tickChecks planChecks treeVerdict costing costingBy submitted submittedBy ticked tickedBy planned plannedBy digits digitsIn line refusalLine answerLine bytesOf numberOf isKind layout kindOf fieldsOf recordOf bodyOf recordBytes writing fieldsFrom behind readKind readAt rateChecks vrateChecks vrateInRange lentBy lentOf lentAfter vrated vratedBy tickLines shareLines planLines verdictLines inPhase newestFault nodeChecks nodeStep modelStep startChecks startedBy started startStep recordStep readStep nextPlace stepped replayFrom replay
 computed = tt
 
 -- ---- an entry of the list: a bench number, what the rules give, what the bench has
@@ -235,6 +243,10 @@ clocked vtime since n =
 abbrev behind9 : ℕ → Controller
 behind9 budget = putLeaf 1 (saved budget) (holding 1) (state9 budget)
 
+-- one bio waits of the first leaf and two of the second
+abbrev both9 : Controller
+both9 = putLeaf 2 (saved 0) (holding 2) (behind9 0)
+
 abbrev rated : ℕ → Clock
 rated vrate = record { time = 0; vtime = virt 0; since = virt 0; vrate = vrate }
 
@@ -245,6 +257,17 @@ later = ticked 250 [] (ticked 100 [] (clocked 0 0 0) .state) .state
 -- B9's leaf after a bio that waits
 waits9 : Controller
 waits9 = submitted (bio 1 0 4096) (state9 399999) .state
+
+-- what a read at a place, and a tick's record in so many places, are refused
+abbrev read : List ℕ → ℕ → ℕ
+read trace at = readNumber (readAt trace at)
+
+abbrev written : ℕ → ℕ
+written places = writeNumber (writing (Tick 0) (replicate places 7))
+
+-- the last digit that the replay prints for what stands first in a trace: of R 16, R 17 or R 18
+abbrev first : List ℕ → ℕ
+first trace = getD (stepped (readAt trace 0) beginning .bytes) 3 0
 
 pub edges : List Case
 edges =
@@ -261,10 +284,12 @@ edges =
     ∷ isNot (isFault (treeFault (chain 8))) ∷ is (isFault (treeFault (chain 9)))
     ∷ gives 0 (roomChecks Waits (abs 1) emptyRow (holding 7)) ∷ gives 7 (roomChecks Waits (abs 1) emptyRow (holding 8))
     ∷ gives 0 (roomChecks OnDebt (abs 1) (owing (2 ^ 40 - 1)) emptyQueue) ∷ gives 8 (roomChecks OnDebt (abs 1) (owing (2 ^ 40)) emptyQueue)
+    ∷ gives 0 (tickChecks 250 0 later) ∷ gives 9 (tickChecks 249 0 later)
     ∷ gives 0 (tickChecks (10 ^ 9) 0 (clocked 0 0 0)) ∷ gives 10 (tickChecks (10 ^ 9 + 1) 0 (clocked 0 0 0))
     ∷ gives 0 (tickChecks 1 0 (clocked (2 ^ 60 - 1) 0 0)) ∷ gives 11 (tickChecks 1 0 (clocked (2 ^ 60) 0 0))
     ∷ gives 0 (tickChecks 1 0 (clocked 0 (2 ^ 33 - 1) 0)) ∷ gives 12 (tickChecks 1 0 (clocked 0 (2 ^ 33) 0))
     ∷ gives 0 (tickChecks 0 8 (clocked 0 0 8)) ∷ gives 13 (tickChecks 0 7 (clocked 0 0 8))
+    ∷ gives 0 (tickChecks 0 3 both9) ∷ gives 13 (tickChecks 0 2 both9)
     ∷ gives 0 (planChecks (clocked 0 1 0)) ∷ gives 14 (planChecks (clocked 0 0 0))
     ∷ is (vrateInRange 1) ∷ isNot (vrateInRange 0) ∷ is (vrateInRange 400) ∷ isNot (vrateInRange 401)
     ∷ B 0 (capped (saved (2 ^ 27)) emptyQueue .budget .0) (2 ^ 27)
@@ -281,6 +306,13 @@ edges =
     ∷ B 0 (targetOf (virt 100) (abs 1000)) 1342177280
     ∷ B 0 (costNumber (costing M atZero (bio 1 1 4096))) 40000
     ∷ isNot (isFault (treeFault (tree 2 (0 ∷ []) (1 ∷ [])))) ∷ is (isFault (treeFault (tree 2 (1 ∷ []) (1 ∷ []))))
+    ∷ B 0 (read (1 ∷ 0 ∷ 1 ∷ 0 ∷ []) 0) 0 ∷ B 0 (read (7 ∷ 1 ∷ 0 ∷ []) 0) 0 ∷ B 0 (read (0 ∷ []) 0) 16 ∷ B 0 (read (8 ∷ []) 0) 16
+    ∷ B 0 (read (1 ∷ 0 ∷ 1 ∷ []) 0) 17 ∷ B 0 (read (1 ∷ 0 ∷ 1 ∷ 0 ∷ []) 4) 0 ∷ B 0 (read (1 ∷ 0 ∷ 1 ∷ 0 ∷ []) 5) 17
+    ∷ B 0 (written 9) 0 ∷ B 0 (written 8) 28
+    ∷ is (inPhase Setup 1) ∷ is (inPhase Setup 2) ∷ isNot (inPhase Setup 3) ∷ isNot (inPhase Setup 4)
+    ∷ is (inPhase Priced 1) ∷ isNot (inPhase Priced 2) ∷ is (inPhase Priced 3) ∷ isNot (inPhase Priced 4)
+    ∷ isNot (inPhase Running 3) ∷ is (inPhase Running 4) ∷ is (inPhase Running 7)
+    ∷ B 0 (first (8 ∷ [])) 54 ∷ B 0 (first (5 ∷ [])) 55 ∷ B 0 (first (recordBytes (Tick 0))) 56
     ∷ []
 
 pub edges-hold : allRight edges ≡ true
@@ -307,3 +339,142 @@ wholeOutput =
 pub whole-case : replay wholeTrace ≡ wholeOutput
 unfolding computed wholeTrace wholeOutput
 whole-case = refl
+
+-- ---- a run: calls from a fresh start, each with what it answers. Every state of it is sound (`bench-run-is-sound` in
+-- Demand3/Sentences), so what is said of sound states is not said of nothing
+pub data Reply : Type 0 where
+  toBio : Answer → Reply
+  toTick : Count → List ℕ → Reply
+  toOther : Verdict → Reply
+
+pub record Move : Type 0 where
+  pub call : Call
+  pub want : Reply
+
+-- what a call answers, a tick with its buffer
+abbrev reply : Call → Controller → Reply
+reply (Call.submit b) c = toBio (submitted b c .answer)
+reply (Call.tick time lent) c = toTick (ticked time lent c .answer) (lentOf time lent c)
+reply Call.plan c = toOther (planned c .answer)
+reply (Call.vrate v) c = toOther (vrated v c .answer)
+
+abbrev pub replies : List Move → Controller → List Reply
+replies [] c = []
+replies (m ∷ ms) c = reply (m .call) c ∷ replies ms (after (m .call) c)
+
+abbrev pub wants : List Move → List Reply
+wants [] = []
+wants (m ∷ ms) = m .want ∷ wants ms
+
+-- the state that a run leaves
+abbrev pub left : List Move → Controller → Controller
+left [] c = c
+left (m ∷ ms) c = left ms (after (m .call) c)
+
+-- a bio of node, flags, id, sector and bytes; a tick to a time with so many places, each of which has 0
+abbrev ask : ℕ → ℕ → ℕ → ℕ → ℕ → Answer → Move
+ask node flags id sector bytes answer = record {
+  call = Call.submit (record { node = node; flags = flags; id = id; sector = sector; bytes = bytes });
+  want = toBio answer;
+}
+
+abbrev tickTo : ℕ → ℕ → Count → List ℕ → Move
+tickTo time places answer lent = record { call = Call.tick time (replicate places 0); want = toTick answer lent }
+
+abbrev plans : Verdict → Move
+plans answer = record { call = Call.plan; want = toOther answer }
+
+abbrev rate : ℕ → Verdict → Move
+rate v answer = record { call = Call.vrate v; want = toOther answer }
+
+-- the tree of B5 in the arrays of the code, and M with the slowest writes, a page of which costs a second
+abbrev pub runTree : Tree
+runTree = record { count = 3; parents = replicate nodesMost 0; weights = 0 ∷ 100 ∷ 300 ∷ replicate (nodesMost - 3) 0 }
+
+abbrev pub runRates : Rates
+runRates = record { rbps = 409600000; rseqiops = 50000; rrandiops = 10000; wbps = 4096; wseqiops = 1; wrandiops = 1 }
+
+unfoldable pub begun : Controller
+begun = started runTree runRates 0 .state
+
+pub moves : List Move
+moves =
+    -- nothing has passed and nobody is active yet; a write of three pages is too dear
+    plans (Refused NothingPassed)
+    ∷ rate 0 (Refused BadVrate)
+    ∷ ask 0 0 1 0 4096 (Declined NoLeaf)
+    ∷ ask 1 0 2 0 0 (Declined BadBio)
+    ∷ ask 1 1 3 0 12288 (Declined TooDear)
+    -- both leaves wake, wait and are released; the times between are refused
+    ∷ ask 1 0 4 0 4096 Waits
+    ∷ tickTo 100000 1 (Released 1) (4 ∷ [])
+    ∷ ask 2 0 5 0 4096 Waits
+    ∷ tickTo 100000 0 (Unticked FewPlaces) []
+    ∷ tickTo 99999 1 (Unticked TimeBack) (0 ∷ [])
+    ∷ tickTo 1000100001 1 (Unticked TimeFar) (0 ∷ [])
+    ∷ tickTo 499999 2 (Released 1) (5 ∷ 0 ∷ [])
+    -- B9: a debt that a tick of 0 repays but for 1, and a tick of 1 clears
+    ∷ ask 1 2 6 100000 4096 OnDebt
+    ∷ tickTo 499999 0 (Released 0) []
+    ∷ tickTo 500000 0 (Released 0) []
+    ∷ ask 2 0 7 8 4096 Issued
+    -- a full queue; the plan makes the other leaf a donor, which then waits
+    ∷ ask 1 0 8 0 4096 Waits
+    ∷ ask 1 0 9 0 4096 Waits
+    ∷ ask 1 0 10 0 4096 Waits
+    ∷ ask 1 0 11 0 4096 Waits
+    ∷ ask 1 0 12 0 4096 Waits
+    ∷ ask 1 0 13 0 4096 Waits
+    ∷ ask 1 0 14 0 4096 Waits
+    ∷ ask 1 0 15 0 4096 Waits
+    ∷ ask 1 0 16 0 4096 (Declined QueueFull)
+    ∷ plans Accepted
+    ∷ ask 2 0 17 0 1048576 Waits
+    -- four times as fast: all are released, by rising leaf, and a third second is too much for E
+    ∷ rate 400 Accepted
+    ∷ tickTo 1000500000 10 (Released 9) (8 ∷ 9 ∷ 10 ∷ 11 ∷ 12 ∷ 13 ∷ 14 ∷ 15 ∷ 17 ∷ 0 ∷ [])
+    ∷ tickTo 2000500000 0 (Released 0) []
+    ∷ tickTo 3000500000 0 (Unticked PlanDue) []
+    -- debt up to its limit, of which a quiet plan forgives half and a busy one nothing; the donor falls silent
+    ∷ replicate 549 (ask 1 3 18 0 8192 OnDebt)
+    ++ (ask 1 3 18 0 8192 (Declined DebtFull)
+    ∷ plans Accepted
+    ∷ tickTo 2000500001 0 (Released 0) []
+    ∷ plans Accepted
+    ∷ tickTo 2000500002 0 (Released 0) []
+    ∷ [])
+
+pub run-answers : replies moves begun ≡ wants moves
+unfolding computed moves begun
+run-answers = refl
+
+-- what stands after the first k moves: the donation of the first plan, its end, the second plan, and what the run leaves
+abbrev pub upTo : ℕ → Controller
+upTo k = left (take k moves) begun
+
+-- the active leaves, the donors, and of the leaves 1 and 2 share, budget and debt
+abbrev seen : Controller → List ℕ
+seen c =
+    c .active ∷ c .donors
+    ∷ shareAt c 1 ∷ rowAt c 1 .budget .0 ∷ rowAt c 1 .debt .0
+    ∷ shareAt c 2 ∷ rowAt c 2 .budget .0 ∷ rowAt c 2 .debt .0
+    ∷ []
+
+pub run-reaches :
+    (seen (upTo 26) ≡ 6 ∷ 4 ∷ 751619277 ∷ 0 ∷ 0 ∷ 322122547 ∷ 239999 ∷ 0 ∷ [])
+    × (seen (upTo 27) ≡ 6 ∷ 0 ∷ 268435456 ∷ 0 ∷ 0 ∷ 805306368 ∷ 95999 ∷ 0 ∷ [])
+    × (seen (upTo 582) ≡ 6 ∷ 4 ∷ 1073310649 ∷ 33567911 ∷ 549000000000 ∷ 431175 ∷ 134217728 ∷ 0 ∷ [])
+    × (seen (upTo 585) ≡ 2 ∷ 0 ∷ 1073741824 ∷ 0 ∷ 548966445561 ∷ 0 ∷ 0 ∷ 0 ∷ [])
+unfolding computed moves begun
+run-reaches = (refl, refl, refl, refl)
+
+-- 11: a state of the run at another virtual time, which the ticks of no list of a bearable length bring about
+abbrev pub aged : ℕ → Controller → Controller
+aged vtime c =
+    withClock (record { time = c .clock .time; vtime = virt vtime; since = c .clock .since; vrate = c .clock .vrate }) c
+
+-- a nanosecond more is 4 of virtual time
+pub limit-answers : (reply (Call.tick 2000500003 []) (aged (2 ^ 60 - 4) (upTo 585)) ≡ toTick (Released 0) [])
+    × (reply (Call.tick 2000500003 []) (aged (2 ^ 60 - 3) (upTo 585)) ≡ toTick (Unticked ClockFull) [])
+unfolding computed moves begun
+limit-answers = (refl, refl)

@@ -60,6 +60,19 @@ queueAt c n = getD (c .queues) n emptyQueue
 abbrev pub shareAt : Controller → ℕ → ℕ
 shareAt c n = getD (c .shares) n 0
 
+abbrev pub withClock : Clock → Controller → Controller
+withClock clock c = record {
+  tree = c .tree;
+  model = c .model;
+  clock = clock;
+  leaves = c .leaves;
+  active = c .active;
+  donors = c .donors;
+  shares = c .shares;
+  rows = c .rows;
+  queues = c .queues;
+}
+
 abbrev pub putLeaf : ℕ → Row → Queue → Controller → Controller
 putLeaf n row queue c = record {
   tree = c .tree;

@@ -8,7 +8,7 @@ use Rattle.rules.specs.Numbers.{WHOLE, nodesMost, leafMost, queueRoom, s
 use Rattle.rules.specs.Words.{sumTo, has, none}
 use Rattle.rules.specs.Units.{abs}
 use Rattle.rules.specs.Cost.{ratesInRange, priced}
-use Rattle.rules.specs.Tree.{leavesOf, baseShare, baseShares, isThin}
+use Rattle.rules.specs.Tree.{parent, last, leavesOf, baseShare, baseShares, isThin}
 use Rattle.rules.specs.Budget.{rowAt, queueAt, shareAt}
 use Rattle.rules.specs.Laws.Trees.{SoundTree, Within}
 use Rattle.rules.specs.declared.cost.Rates.{Rates}
@@ -17,12 +17,13 @@ use Rattle.rules.specs.declared.budget.Row.{Row}
 use Rattle.rules.specs.declared.budget.Queue.{Queue}
 use Rattle.rules.specs.declared.budget.Clock.{Clock}
 use Rattle.rules.specs.declared.budget.Controller.{Controller}
+use Rattle.rules.specs.declared.replay.Replay.{Replay}
 
 -- the most that budget x share comes to between two calls: a waiter of the dearest cost that just does not fit
 abbrev pub worthMost : ℕ
 worthMost = 2 ^ 61 + 2 ^ 30
 
--- "the model priced from valid rates"
+-- a model that was priced from rates in range
 pub record PricedModel (m : Model) : Type 0 where
   pub rates : Rates
   pub valid : ratesInRange rates ≡ true
@@ -86,3 +87,10 @@ pub record Sound (c : Controller) : Type 0 where
   pub worth-most : (n : ℕ) → rowAt c n .budget .0 * shareAt c n ≤ worthMost
   pub usage-most : sumTo (λ n. rowAt c n .usage .0) leafMost * WHOLE + sumTo (λ n. rowAt c n .budget .0 * shareAt c n) leafMost
       ≤ c .clock .since .0 * WHOLE + leafMost * worthMost
+
+-- what every replay keeps, from its beginning on: the nodes so far have room and climb, and its state is sound
+pub record Playing (s : Replay) : Type 0 where
+  pub least : 0 < s .tree .count
+  pub most : s .tree .count ≤ nodesMost
+  pub up : (n : ℕ) → 0 < n → n ≤ last (s .tree) → parent (s .tree) n < n
+  pub state : Sound (s .state)

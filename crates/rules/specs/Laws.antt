@@ -27,3 +27,7 @@ pub mod Refused
 pub mod Trace
 pub mod Buffers
 pub mod Lines
+pub mod Replays
+pub mod Chunks
+pub mod Cuts
+pub mod Runs

@@ -10,6 +10,7 @@ pub mod Refusals
 pub mod Entries
 pub mod Trace
 pub mod Replay
+pub mod Chunks
 pub mod Bench
 pub mod Laws
 pub mod Invariant

@@ -107,3 +107,7 @@ leafMost = nodesMost - 1
 -- 63 leaves with 8 waiting bios each
 abbrev pub waitingMost : ℕ
 waitingMost = leafMost * queueRoom
+
+-- the most that one record prints: a line r, an id of 10 digits and its blank, and a line feed for each
+abbrev pub lineRoom : ℕ
+lineRoom = waitingMost * 13

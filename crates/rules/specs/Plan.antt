@@ -9,7 +9,7 @@ use Rattle.rules.specs.Numbers.{WHOLE, leafMost, shareFloor, vrateLeast,
 use Rattle.rules.specs.Words.{sumTo, anyTo, table, has, setOf, none}
 use Rattle.rules.specs.Units.{abs, virt, CEIL, FLOOR, atWhole}
 use Rattle.rules.specs.Tree.{baseShares}
-use Rattle.rules.specs.Budget.{rowAt, queueAt, owes, waits, withBudget, withDebt, reshared}
+use Rattle.rules.specs.Budget.{rowAt, queueAt, withClock, owes, waits, withBudget, withDebt, reshared}
 use Rattle.rules.specs.declared.units.Abs.{Abs}
 use Rattle.rules.specs.declared.units.Virt.{Virt}
 use Rattle.rules.specs.declared.budget.Row.{Row}
@@ -150,14 +150,4 @@ unfoldable pub vrateInRange : ℕ → Bool
 vrateInRange v = leb vrateLeast v && leb v vrateMost
 
 abbrev pub withVrate : ℕ → Controller → Controller
-withVrate v c = record {
-  tree = c .tree;
-  model = c .model;
-  clock = record { time = c .clock .time; vtime = c .clock .vtime; since = c .clock .since; vrate = v };
-  leaves = c .leaves;
-  active = c .active;
-  donors = c .donors;
-  shares = c .shares;
-  rows = c .rows;
-  queues = c .queues;
-}
+withVrate v c = withClock (record { time = c .clock .time; vtime = c .clock .vtime; since = c .clock .since; vrate = v }) c

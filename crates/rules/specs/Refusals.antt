@@ -32,6 +32,10 @@ use Rattle.rules.specs.declared.refusals.Pricing.{Pricing}
 use Rattle.rules.specs.declared.refusals.Pricing.the-variants.{Priced, Refused as Unpriced}
 use Rattle.rules.specs.declared.refusals.Costing.{Costing}
 use Rattle.rules.specs.declared.refusals.Costing.the-variants.{Costs, Refused as Uncosted}
+use Rattle.rules.specs.declared.trace.Read.{Read}
+use Rattle.rules.specs.declared.trace.Read.the-variants.{Found, End, Refused as Unread}
+use Rattle.rules.specs.declared.trace.Write.{Write}
+use Rattle.rules.specs.declared.trace.Write.the-variants.{Wrote, Refused as Unwritten}
 
 -- the number of each refusal in the table
 abbrev pub number : Refusal → ℕ
@@ -90,6 +94,15 @@ pricingNumber (Unpriced x) = number x
 abbrev pub costingNumber : Costing → ℕ
 costingNumber (Costs cost) = 0
 costingNumber (Uncosted x) = number x
+
+abbrev pub readNumber : Read → ℕ
+readNumber (Found r next) = 0
+readNumber End = 0
+readNumber (Unread x) = number x
+
+abbrev pub writeNumber : Write → ℕ
+writeNumber (Wrote n) = 0
+writeNumber (Unwritten x) = number x
 
 -- the numbers of a list of checks, in its order
 abbrev pub numbersOf : List Check → List ℕ

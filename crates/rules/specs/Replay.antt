@@ -12,6 +12,7 @@ use Rattle.rules.specs.Refusals.{number, firstOf, nodeChecks, rateChecks
 use Rattle.rules.specs.Entries.{noTree, slowest, slowestModel, started, submitted, ticked, lentOf, planned, vrated}
 use Rattle.rules.specs.Trace.{kindOf, readAt}
 use Rattle.rules.specs.declared.cost.Rates.{Rates}
+use Rattle.rules.specs.declared.cost.Bio.{Bio}
 use Rattle.rules.specs.declared.tree.Tree.{Tree}
 use Rattle.rules.specs.declared.budget.Controller.{Controller}
 use Rattle.rules.specs.declared.refusals.Refusal.{Refusal}
@@ -128,22 +129,40 @@ unfoldable pub startStep : Verdict → Controller → Replay → Step
 startStep Accepted c s = silent (within Running (s .tree) (s .rates) c)
 startStep (Refused x) c s = stopsAt x s
 
-abbrev pub goesOn : List ℕ → Controller → Replay → Step
-goesOn bytes c s = record { bytes = bytes; replay = within (s .phase) (s .tree) (s .rates) c }
+-- ---- a call on the controller: the bytes that it prints, and the state after it
+pub record Called : Type 0 where
+  pub bytes : List ℕ
+  pub state : Controller
+
+abbrev pub bioCall : Bio → Controller → Called
+bioCall b c = record { bytes = answerLine (submitted b c .answer) (b .id); state = submitted b c .state }
 
 -- the replay lends a tick room for every bio that can wait (DECISIONS 17)
 abbrev pub allRoom : List ℕ
 allRoom = replicate waitingMost 0
 
+abbrev pub tickCall : ℕ → Controller → Called
+tickCall time c =
+    record { bytes = tickLines (ticked time allRoom c .answer) (lentOf time allRoom c); state = ticked time allRoom c .state }
+
+abbrev pub planCall : Controller → Called
+planCall c = record { bytes = planLines (planned c .answer) (planned c .state); state = planned c .state }
+
+abbrev pub vrateCall : ℕ → Controller → Called
+vrateCall v c = record { bytes = verdictLines (vrated v c .answer); state = vrated v c .state }
+
+-- ".. otherwise it goes on"
+abbrev pub goesOn : Called → Replay → Step
+goesOn call s = record { bytes = call .bytes; replay = within (s .phase) (s .tree) (s .rates) (call .state) }
+
 unfoldable pub recordStep : Record → Replay → Step
 recordStep (Node p w) s = nodeStep (firstOf (nodeChecks (grown p w (s .tree)))) (grown p w (s .tree)) s
 recordStep (ModelOf r) s = modelStep (firstOf (rateChecks r)) r s
 recordStep (Start time) s = startStep (started (s .tree) (s .rates) time .answer) (started (s .tree) (s .rates) time .state) s
-recordStep (BioOf b) s = goesOn (answerLine (submitted b (s .state) .answer) (b .id)) (submitted b (s .state) .state) s
-recordStep (Tick time) s =
-    goesOn (tickLines (ticked time allRoom (s .state) .answer) (lentOf time allRoom (s .state))) (ticked time allRoom (s .state) .state) s
-recordStep Plan s = goesOn (planLines (planned (s .state) .answer) (planned (s .state) .state)) (planned (s .state) .state) s
-recordStep (Vrate v) s = goesOn (verdictLines (vrated v (s .state) .answer)) (vrated v (s .state) .state) s
+recordStep (BioOf b) s = goesOn (bioCall b (s .state)) s
+recordStep (Tick time) s = goesOn (tickCall time (s .state)) s
+recordStep Plan s = goesOn (planCall (s .state)) s
+recordStep (Vrate v) s = goesOn (vrateCall v (s .state)) s
 
 -- ---- what is read at a place: a record, which is checked for 18 and then for its own refusals, the end, or 16 or 17
 unfoldable pub readStep : Read → Replay → Step

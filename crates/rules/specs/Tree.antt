@@ -37,7 +37,7 @@ level t n = levelIn n t n
 unfoldable pub countInRange : ℕ → Bool
 countInRange count = leb nodesLeast count && leb count nodesMost
 
--- the weight alone: a trace's node record has no more to check of it
+-- a weight by itself
 unfoldable pub weightInRange : ℕ → Bool
 weightInRange w = leb weightLeast w && leb w weightMost
 

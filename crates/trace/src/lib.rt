@@ -3,5 +3,5 @@
 // Every byte string, every place and every record has an answer; nothing outside the lent slices is touched.
 pub mod decoder;
 pub mod encoder;
-mod layout;
+pub mod layout;
 pub mod reader;

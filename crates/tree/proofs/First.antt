@@ -11,7 +11,7 @@ use lib.ListN.{getD}
 use borrow.Author.Tests.{le-leb, lt-leb, lt-ltb, le-ltb}
 use lib.Dec.{leb}
 use Rattle.rules.specs.Numbers.{nodesLeast, nodesMost, levelMost}
-use Rattle.rules.specs.Tree.{last, level, countInRange, weightInRange, nodeFault, orElse, faultTo, treeFault}
+use Rattle.rules.specs.Tree.{last, level, countInRange, weightInRange, nodeFault, orElse, faultTo, treeFault, newestFault}
 use Rattle.rules.specs.Refusals.{isFault}
 use Rattle.rules.specs.declared.tree.Tree.{Tree}
 use Rattle.rules.specs.declared.tree.Fault.{Fault}
@@ -108,3 +108,14 @@ module _ (t : Tree) where
   pub in-range : nodesLeast ≤ t .count → t .count ≤ nodesMost → {f : Fault} → f ≡ faultTo t (last t) → f ≡ treeFault t
   unfolding treeFault countInRange
   in-range l m e = rw (le-leb nodesLeast (t .count) l, le-leb (t .count) nodesMost m) e
+
+-- ---- the newest node alone
+module _ (t : Tree) (most : t .count ≤ nodesMost) where
+  -- the nodes before it, from the last but one on down
+  pub climbs-before : Climbs (t .parents) (last t - 1) → Climbs (t .parents) (t .count - 1 - 1)
+  unfolding last
+  climbs-before up = up
+
+  pub newest-at : {r : Fault} → ((count : ℕ) → r ≡ nodeFault (treeOf count (t .parents) (t .weights)) (t .count - 1)) → r ≡ newestFault t
+  unfolding newestFault last
+  newest-at h = rw (le-leb (t .count) nodesMost most) (h (t .count))

@@ -2,7 +2,7 @@
 ghost use mathlib.Core.Path.{_≡_};
 ghost use mathlib.Core.List.{List};
 ghost use Prim.Native.Nat.{ℕ, _-_, _<_, _≤_};
-ghost use Rattle.rules.specs.Tree.{level, weightInRange, nodeFault, treeFault};
+ghost use Rattle.rules.specs.Tree.{last, level, weightInRange, nodeFault, treeFault, newestFault};
 ghost use Rattle.rules.specs.Refusals.{isFault};
 ghost use Rattle.tree.specs.View.{treeOf, Climbs, firstFault};
 use crate::wide;
@@ -99,4 +99,13 @@ pub fn fault(tree: Tree) -> Fault
         return Fault::Count;
     }
     first_fault(&tree.parents, &tree.weights, count)
+}
+
+// The fault of the newest node, as nodes come one by one: those before it are known to climb.
+pub fn newest(tree: Tree) -> Fault
+    requires { ⌜ (1 < tree .count) × (tree .count ≤ 64) × Climbs (tree .parents) (last tree - 1) ⌝ }
+    ensures { λ r. ⌜ r ≡ newestFault tree ⌝ }
+{
+    let node = tree.count - 1;
+    node_fault(&tree.parents, &tree.weights, node)
 }

@@ -11,14 +11,11 @@ use crate::heavy;
 use crate::nodes::active_nodes;
 use crate::nodes::leaves_in;
 use crate::wide;
+use rules::budget::Controller;
 use rules::tree::Tree;
 use sets::has;
 use sets::lowest;
 use sets::remove;
-
-const WHOLE: u64 = 1073741824;
-
-const SHARE_FLOOR: u64 = 1024;
 
 // The sum of the weights of a node's active children.
 fn child_sum<'a>(
@@ -64,7 +61,7 @@ pub fn share_of<'a>(
     ensures { λ r. ⌜ r ≡ shareAmong (treeOf count (now (parents .entry)) (now (weights .entry))) nodes node ⌝ }
 {
     if node == 0 {
-        return WHOLE;
+        return Controller::WHOLE;
     }
     let parent = wide(parents[node]);
     let above = share_of(parents, weights, count, nodes, parent);
@@ -100,7 +97,7 @@ pub fn thin(tree: Tree) -> bool
     let mut left = all;
     while left != 0 {
         let leaf = lowest(left);
-        if share_of(&tree.parents, &tree.weights, count, nodes, leaf) < SHARE_FLOOR {
+        if share_of(&tree.parents, &tree.weights, count, nodes, leaf) < Controller::SHARE_FLOOR {
             return true;
         }
         left = remove(left, leaf);

@@ -1,24 +1,26 @@
 -- Demand 3 in the customer's sentences: over every finite list of calls, of any kind and with any arguments, from a fresh
 -- start. The bound holds between any two moments; from the start on nothing is saved yet.
 -- Assumes nothing.
-use mathlib.Core.Path.{_≡_}
+use mathlib.Core.Path.{_≡_, refl}
 use mathlib.Core.Bool.{true, false}
 use mathlib.Core.List.{List, [], _∷_}
 use Prim.Native.Nat.{ℕ, _+_, _*_, _≤_}
+use lib.ListN.{take}
 use native.Mathlib.Nat.{le-of-mul-le-mul-right}
 use native.Mathlib.Omega.{arith}
-use Rattle.rules.specs.Numbers.{WHOLE, leafMost}
+use Rattle.rules.specs.Numbers.{WHOLE, leafMost, vtimeMost}
 use Rattle.rules.specs.Words.{sumTo, has, none}
 use Rattle.rules.specs.Units.{CEIL}
 use Rattle.rules.specs.Tree.{baseShare, baseShares}
 use Rattle.rules.specs.Budget.{shareAt}
 use Rattle.rules.specs.Entries.{started}
 use Rattle.rules.specs.Invariant.{Sound}
+use Rattle.rules.specs.Bench.{Move, left, runTree, runRates, begun, moves, upTo, aged}
 use Rattle.rules.specs.Demand3.Ledger.{Call, after, waiting, owed, accepted, issued, released, repaid, forgiven, generated, charged, saved}
 use Rattle.rules.specs.Demand3.Steps.{call-keeps, call-flow, call-books}
 use Rattle.rules.specs.Demand3.Heads.{generated-is-the-growth-of-virtual-time}
 use Rattle.rules.specs.Laws.Units.{ceil-enough}
-use Rattle.rules.specs.Laws.Starts.{start-gives, start-saves-nothing, start-owes-nothing}
+use Rattle.rules.specs.Laws.Starts.{start-gives, start-saves-nothing, start-owes-nothing, clock-keeps}
 use Rattle.rules.specs.declared.cost.Rates.{Rates}
 use Rattle.rules.specs.declared.tree.Tree.{Tree}
 use Rattle.rules.specs.declared.budget.Controller.{Controller}
@@ -87,6 +89,11 @@ module _ (tree : Tree) (rates : Rates) (time : ℕ) (ks : List Call) where
       → sumTo (shareAt c) leafMost ≡ sumTo (baseShare (c .tree) (c .active)) leafMost
   donation-keeps-the-sum c e = rw e (reached-is-sound ks (start-gives tree rates time) .share-sum)
 
+  -- and a leaf that is not active holds none, so that sum is of the active shares alone
+  pub no-share-while-inactive : (c : Controller) → c ≡ run ks (started tree rates time .state) → (n : ℕ)
+      → has (c .active) n ≡ false → shareAt c n ≡ 0
+  no-share-while-inactive c e = rw e (reached-is-sound ks (start-gives tree rates time) .share-idle)
+
   -- no active leaf that is no donor is below its base share
   pub no-taker-below-base : (c : Controller) → c ≡ run ks (started tree rates time .state) → (n : ℕ)
       → has (c .active) n ≡ true → has (c .donors) n ≡ false → baseShare (c .tree) (c .active) n ≤ shareAt c n
@@ -96,3 +103,25 @@ module _ (tree : Tree) (rates : Rates) (time : ℕ) (ks : List Call) where
   pub no-donation-restores-base : (c : Controller) → c ≡ run ks (started tree rates time .state)
       → c .donors ≡ none → c .shares ≡ baseShares (c .tree) (c .active)
   no-donation-restores-base c e = rw e (reached-is-sound ks (start-gives tree rates time) .no-donation)
+
+-- ---- and none of this is said of nothing: the bench's run begins with a start and has answers of every kind, refusals 4 to 15
+-- among them (`run-answers`, `run-reaches` and `limit-answers` in Bench), and each of its states is sound
+left-is-sound : (ms : List Move) {c : Controller} → Sound c → Sound (left ms c)
+left-is-sound [] sound = sound
+left-is-sound (m ∷ ms) sound = left-is-sound ms (call-keeps (m .call) sound)
+
+pub bench-run-is-sound : (k : ℕ) → Sound (upTo k)
+unfolding begun
+bench-run-is-sound k = left-is-sound (take k moves) (start-gives runTree runRates 0)
+
+-- so is one at any virtual time up to the limit
+pub aged-is-sound : {c : Controller} → Sound c → (vtime : ℕ) → vtime ≤ vtimeMost → Sound (aged vtime c)
+aged-is-sound sound vtime l =
+    clock-keeps sound _
+    (record {
+      vrate-least = sound .clock .vrate-least;
+      vrate-most = sound .clock .vrate-most;
+      vtime-most = l;
+      since-most = sound .clock .since-most;
+    })
+    refl

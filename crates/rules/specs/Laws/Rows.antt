@@ -110,7 +110,7 @@ repayment-if-owing share r = go (owes r) refl
     go true e = refl
     go false e = omega (arith, repayment-of-nothing share r (omega (arith, ltb-false 0 (r .debt .0) e)))
 
--- "it repays p, and the budget falls by CEIL(p x WHOLE / share)"
+-- "it repays p = .., and the budget falls by CEIL(p x WHOLE / share)"
 pub repaid-budget : (share : ℕ) (r : Row) → 0 < r .debt .0 → repaid share r .budget .0 ≡ r .budget .0 - relative (repayment share r) share .0
 unfolding repaid
 repaid-budget share r l = rw (lt-ltb 0 (r .debt .0) l)

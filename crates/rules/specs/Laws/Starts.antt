@@ -1,4 +1,4 @@
--- Start gives a sound state, accepted or refused; vrate keeps one, and moves nothing.
+-- Start gives a sound state, accepted or refused; another clock keeps one, and vrate moves nothing.
 -- Assumes nothing.
 use mathlib.Core.Path.{_≡_, refl, sym, ap, _∙_}
 use mathlib.Core.Bool.{true, false}
@@ -10,11 +10,11 @@ use Rattle.rules.specs.Words.{sumTo, anyTo, has, none}
 use Rattle.rules.specs.Units.{abs}
 use Rattle.rules.specs.Cost.{ratesInRange, bpsInRange, iopsInRange, priced}
 use Rattle.rules.specs.Tree.{last, baseShare, baseShares, isThin}
-use Rattle.rules.specs.Budget.{fresh, rowAt, queueAt, shareAt, emptyRow, emptyQueue}
+use Rattle.rules.specs.Budget.{fresh, rowAt, queueAt, shareAt, withClock, emptyRow, emptyQueue}
 use Rattle.rules.specs.Plan.{withVrate}
 use Rattle.rules.specs.Refusals.{firstOf, startChecks, vrateChecks}
 use Rattle.rules.specs.Entries.{noTree, slowestModel, slowest, started, startedBy, vrated, vratedBy}
-use Rattle.rules.specs.Invariant.{Sound, PricedModel, SoundRow, SoundQueue}
+use Rattle.rules.specs.Invariant.{Sound, PricedModel, SoundClock, SoundRow, SoundQueue}
 use Rattle.rules.specs.Demand3.Ledger.{Call, after, costOfFirst, waiting, owed, issued, released, repaid, generated, charged, saved}
 use Rattle.rules.specs.Laws.Bools.{true-not-false}
 use Rattle.rules.specs.Laws.Sums.{sum-none}
@@ -27,6 +27,7 @@ use Rattle.rules.specs.declared.cost.Rates.{Rates}
 use Rattle.rules.specs.declared.cost.Model.{Model}
 use Rattle.rules.specs.declared.tree.Tree.{Tree}
 use Rattle.rules.specs.declared.budget.Row.{Row}
+use Rattle.rules.specs.declared.budget.Clock.{Clock}
 use Rattle.rules.specs.declared.budget.Controller.{Controller}
 use Rattle.rules.specs.declared.refusals.Verdict.{Verdict}
 use Rattle.rules.specs.declared.refusals.Verdict.the-variants.{Accepted, Refused}
@@ -157,44 +158,50 @@ start-owes-nothing t r time n = go (firstOf (startChecks t r))
     go Accepted = fresh-owes-nothing t (priced r) time n
     go (Refused x) = fresh-owes-nothing noTree slowestModel 0 n
 
+-- ---- another clock with the same E, such as another vrate's
+pub clock-keeps : {c : Controller} → Sound c → (k : Clock) → SoundClock k → k .since ≡ c .clock .since → Sound (withClock k c)
+clock-keeps {c} sound k clock e = record {
+  tree = sound .tree;
+  thick = sound .thick;
+  leaves = sound .leaves;
+  model = sound .model;
+  clock = clock;
+  active-fits = sound .active-fits;
+  donors-fit = sound .donors-fit;
+  active = sound .active;
+  donors = λ n d. let f = sound .donors n d in record {
+    active = f .active;
+    no-debt = f .no-debt;
+    no-waiter = f .no-waiter;
+    gives = f .gives;
+  };
+  shares-all = sound .shares-all;
+  share-floor = sound .share-floor;
+  share-idle = sound .share-idle;
+  share-sum = sound .share-sum;
+  taker = sound .taker;
+  no-donation = sound .no-donation;
+  rows-all = sound .rows-all;
+  queues-all = sound .queues-all;
+  row = sound .row;
+  queue = sound .queue;
+  idle = sound .idle;
+  worth-most = sound .worth-most;
+  usage-most = rw e (sound .usage-most);
+}
+
 -- ---- vrate
 pub with-vrate-keeps : {c : Controller} → Sound c → (v : ℕ) → firstOf (vrateChecks v) ≡ Accepted → Sound (withVrate v c)
 with-vrate-keeps {c} sound v e =
     let w = vrate-passes v e in
-    record {
-      tree = sound .tree;
-      thick = sound .thick;
-      leaves = sound .leaves;
-      model = sound .model;
-      clock = record {
-        vrate-least = w .0;
-        vrate-most = w .1;
-        vtime-most = sound .clock .vtime-most;
-        since-most = sound .clock .since-most;
-      };
-      active-fits = sound .active-fits;
-      donors-fit = sound .donors-fit;
-      active = sound .active;
-      donors = λ n d. let f = sound .donors n d in record {
-        active = f .active;
-        no-debt = f .no-debt;
-        no-waiter = f .no-waiter;
-        gives = f .gives;
-      };
-      shares-all = sound .shares-all;
-      share-floor = sound .share-floor;
-      share-idle = sound .share-idle;
-      share-sum = sound .share-sum;
-      taker = sound .taker;
-      no-donation = sound .no-donation;
-      rows-all = sound .rows-all;
-      queues-all = sound .queues-all;
-      row = sound .row;
-      queue = sound .queue;
-      idle = sound .idle;
-      worth-most = sound .worth-most;
-      usage-most = sound .usage-most;
-    }
+    clock-keeps sound (record { time = c .clock .time; vtime = c .clock .vtime; since = c .clock .since; vrate = v })
+    (record {
+      vrate-least = w .0;
+      vrate-most = w .1;
+      vtime-most = sound .clock .vtime-most;
+      since-most = sound .clock .since-most;
+    })
+    refl
 
 pub vrate-keeps : {c : Controller} → Sound c → (v : ℕ) → Sound (vrated v c .state)
 unfolding vrated vratedBy

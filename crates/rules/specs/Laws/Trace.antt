@@ -2,8 +2,9 @@
 -- written back, and the same of a whole trace.
 -- Assumes nothing.
 use mathlib.Core.Path.{_≡_, refl, sym, ap, _∙_}
-use mathlib.Core.Bool.{Bool, true, false}
+use mathlib.Core.Bool.{Bool, true, false, cond}
 use mathlib.Core.List.{List, [], _∷_, _++_, append-nil, append-assoc}
+use mathlib.Core.Logic.{_⊎_, inl, inr, ⊎-elim, _↔_}
 use Prim.Native.Nat.{ℕ, zero, suc, _+_, _-_, _*_, _/_, _%_, _^_, _≤_, _<_}
 use native.Mathlib.Nat.{pow-succ', pow-zero, div-add-mod, div-div-eq-div-mul, div-one, zero-add}
 use native.Mathlib.Numerals.{add-one}
@@ -13,13 +14,16 @@ use lib.ListN.{length, getD, take, drop, take-append-drop, length-append, length
 use lib.Seq.{drop-cons, drop-length, drop-drop, take-add, take-at, drop-at, drop-append-add, getD-at, getD-drop}
 use borrow.Author.Tests.{ltb-true, ltb-false, leb-true, eqb-true, eqb-false, lt-ltb, le-ltb, eq-eqb, ne-eqb}
 use Rattle.rules.specs.Words.{tableFrom}
-use Rattle.rules.specs.Trace.{bytesOf, numberOf, isKind, layout, total, kindOf, fieldsOf, recordOf, bodyOf, recordBytes, FitsIn, Fits, fieldsFrom, behind, readKind, readAt}
+use Rattle.rules.specs.Trace.{bytesOf, numberOf, isKind, layout, total, kindOf, fieldsOf, recordOf, bodyOf, recordBytes, FitsIn, Fits, writing, writtenTo, fieldsFrom, behind, readKind, readAt}
 use Rattle.rules.specs.Laws.Bools.{true-not-false, and-right}
-use Rattle.rules.specs.declared.refusals.Refusal.the-variants.{UnknownKind, CutShort}
+use Rattle.rules.specs.declared.refusals.Refusal.{Refusal}
+use Rattle.rules.specs.declared.refusals.Refusal.the-variants.{UnknownKind, CutShort, ShortBuffer}
 use Rattle.rules.specs.declared.trace.Record.{Record}
 use Rattle.rules.specs.declared.trace.Record.the-variants.{Node, Model, Start, Bio as BioOf, Tick, Plan, Vrate}
 use Rattle.rules.specs.declared.trace.Read.{Read}
 use Rattle.rules.specs.declared.trace.Read.the-variants.{Found, End, Refused}
+use Rattle.rules.specs.declared.trace.Write.{Write}
+use Rattle.rules.specs.declared.trace.Write.the-variants.{Wrote, Refused as Unwritten}
 
 -- ---- a number and its bytes
 
@@ -240,6 +244,49 @@ whole-only (whole k l) = record { known = k; inside = l; it = refl; to = refl }
 
 pub found-only-whole : (trace : List ℕ) (at : ℕ) (r : Record) (next : ℕ) → readAt trace at ≡ Found r next → FoundAt trace at r next
 found-only-whole trace at r next e = whole-only (rw e at (each-answer trace at))
+
+-- ---- refusals 16, 17 and 28
+unknown-only : {trace : List ℕ} {at : ℕ} → Reading trace at (Refused UnknownKind) → (at < length trace) × (isKind (getD trace at 0) ≡ false)
+unknown-only (unknown i k) = (i, k)
+
+-- a known kind whose body is not all there
+pub record CutAt (trace : List ℕ) (at : ℕ) : Type 0 where
+  pub inside : at < length trace
+  pub known : isKind (getD trace at 0) ≡ true
+  pub short : length trace < endAt trace at
+
+cut-only : {trace : List ℕ} {at : ℕ} → Reading trace at (Refused CutShort) → (length trace < at) ⊎ CutAt trace at
+cut-only (beyond h) = inl h
+cut-only (cut i k h) = inr (record { inside = i; known = k; short = h })
+
+module _ (trace : List ℕ) (at : ℕ) where
+  pub refusal-16-exactly-when : (readAt trace at ≡ Refused UnknownKind) ↔ ((at < length trace) × (isKind (getD trace at 0) ≡ false))
+  refusal-16-exactly-when = (λ e. unknown-only (rw e at (each-answer trace at)), λ w. unknown-is-refused trace at (w .0) (w .1))
+
+  pub refusal-17-exactly-when : (readAt trace at ≡ Refused CutShort) ↔ ((length trace < at) ⊎ CutAt trace at)
+  refusal-17-exactly-when = (
+    λ e. cut-only (rw e at (each-answer trace at)),
+    ⊎-elim (beyond-is-cut trace at) (λ (w : CutAt trace at). short-is-cut trace at (w .inside) (w .known) (w .short)),
+  )
+
+module _ (r : Record) (lent : List ℕ) where
+  pub refusal-28-exactly-when : (writing r lent ≡ Unwritten ShortBuffer) ↔ (length lent < length (recordBytes r))
+  unfolding writing
+  refusal-28-exactly-when = go (ltb (length lent) (length (recordBytes r))) refl
+    where
+      go : (b : Bool) → ltb (length lent) (length (recordBytes r)) ≡ b
+          → (cond b (Unwritten ShortBuffer) (Wrote (length (recordBytes r))) ≡ Unwritten ShortBuffer) ↔ (length lent < length (recordBytes r))
+      go true h = (λ e. ltb-true _ _ h, λ l. refl)
+      go false h = (λ e. let z : _≡_ {A = ℕ} 0 1 = cc in absurd (omega arith), λ l. absurd (omega (arith, ltb-false (length lent) (length (recordBytes r)) h)))
+
+  pub a-refused-write-changes-nothing : (x : Refusal) → writing r lent ≡ Unwritten x → writtenTo r lent ≡ lent
+  unfolding writing writtenTo
+  a-refused-write-changes-nothing x = go (ltb (length lent) (length (recordBytes r)))
+    where
+      go : (b : Bool) → cond b (Unwritten ShortBuffer) (Wrote (length (recordBytes r))) ≡ Unwritten x
+          → cond b lent (recordBytes r ++ drop (length (recordBytes r)) lent) ≡ lent
+      go true e = refl
+      go false e = let z : _≡_ {A = ℕ} 0 1 = cc in absurd (omega arith)
 
 -- ---- written, then read
 body-is-found : (front body rest : List ℕ) (kind : ℕ) → isKind kind ≡ true → length body ≡ total (layout kind)

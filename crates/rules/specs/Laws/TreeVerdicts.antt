@@ -63,7 +63,7 @@ module _ (t : Tree) where
   pub fine-tree : isFault (treeFault t) ≡ false → isThin t ≡ false → treeVerdict t ≡ Accepted
   fine-tree e f = verdict-by false false e f
 
-  -- "1: a tree rule is broken"
+  -- refusal 1: ".. breaks the tree rules"
   pub refused-exactly-when-broken : (f : Fault) → (treeVerdict t ≡ Refused (BadTree f)) ↔ ((treeFault t ≡ f) × (f ≡ Sound → ⊥))
   refused-exactly-when-broken f = (
     go (isFault (treeFault t)) (isThin t) refl refl,
@@ -76,7 +76,7 @@ module _ (t : Tree) where
       go false true i j v = never (cc (thin-tree i j))
       go false false i j v = never (cc (fine-tree i j))
 
-  -- "2: the tree is thin"
+  -- refusal 2: "the tree is thin"
   pub refused-exactly-when-thin : (treeVerdict t ≡ Refused ThinTree) ↔ ((treeFault t ≡ Sound) × (isThin t ≡ true))
   refused-exactly-when-thin = (go (isFault (treeFault t)) (isThin t) refl refl, λ h. thin-tree (ap isFault (h .0)) (h .1))
     where

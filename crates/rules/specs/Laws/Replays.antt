@@ -1,0 +1,181 @@
+-- What every replay keeps, from its beginning on and over each record: its nodes have room and climb, and its state is sound.
+-- Assumes nothing.
+use mathlib.Core.Path.{_≡_, refl}
+use mathlib.Core.Bool.{Bool, true, false, cond}
+use mathlib.Core.Logic.{⊎-elim}
+use Prim.Native.Nat.{ℕ, zero, suc, _-_, _≤_, _<_}
+use native.Mathlib.Nat.{eq-or-lt-of-le}
+use native.Mathlib.Omega.{arith}
+use lib.Dec.{leb}
+use lib.ListN.{getD}
+use lib.Seq.{getD-set-other}
+use borrow.Author.Tests.{leb-true, leb-false}
+use Rattle.rules.specs.Numbers.{nodesMost}
+use Rattle.rules.specs.Tree.{parent, last, nodeFault, newestFault, countInRange, treeFault}
+use Rattle.rules.specs.Refusals.{firstOf, nodeChecks, rateChecks, treeChecks, startChecks}
+use Rattle.rules.specs.Entries.{noTree, slowest, started, startedBy, submitted, ticked, planned, vrated}
+use Rattle.rules.specs.Trace.{kindOf}
+use Rattle.rules.specs.Replay.{inPhase, isStopped, within, stopsAt, silent, beginning, grown, allRoom, nodeStep, modelStep, startStep, recordStep, readStep, stepped}
+use Rattle.rules.specs.Invariant.{Sound, Playing}
+use Rattle.rules.specs.Laws.Bools.{is-false}
+use Rattle.rules.specs.Laws.Passes.{check-passed}
+use Rattle.rules.specs.Laws.TreeVerdicts.{sound-when}
+use Rattle.rules.specs.Laws.Starts.{start-gives, vrate-keeps}
+use Rattle.rules.specs.Laws.Submits.{submit-keeps}
+use Rattle.rules.specs.Laws.Ticks.{ticked-keeps}
+use Rattle.rules.specs.Laws.Plans.{planned-keeps}
+use Rattle.rules.specs.declared.cost.Rates.{Rates}
+use Rattle.rules.specs.declared.tree.Tree.{Tree}
+use Rattle.rules.specs.declared.tree.Fault.the-variants.{Sound as NoFault, Count, Parent}
+use Rattle.rules.specs.declared.budget.Controller.{Controller}
+use Rattle.rules.specs.declared.refusals.Refusal.{Refusal}
+use Rattle.rules.specs.declared.refusals.Refusal.the-variants.{WrongPhase}
+use Rattle.rules.specs.declared.refusals.Verdict.{Verdict}
+use Rattle.rules.specs.declared.refusals.Verdict.the-variants.{Accepted, Refused}
+use Rattle.rules.specs.declared.trace.Record.{Record}
+use Rattle.rules.specs.declared.trace.Record.the-variants.{Node, Model as ModelOf, Start, Bio as BioOf, Tick, Plan, Vrate}
+use Rattle.rules.specs.declared.trace.Read.{Read}
+use Rattle.rules.specs.declared.trace.Read.the-variants.{Found, End, Refused as Unread}
+use Rattle.rules.specs.declared.replay.Phase.{Phase}
+use Rattle.rules.specs.declared.replay.Phase.the-variants.{Priced, Running, Stopped}
+use Rattle.rules.specs.declared.replay.Replay.{Replay}
+
+-- ---- the beginning: the root alone, and the state of a refused start
+no-state-yet : Sound (beginning .state)
+unfolding started startedBy startChecks treeChecks treeFault countInRange
+no-state-yet = start-gives noTree slowest 0
+
+pub beginning-plays : Playing beginning
+unfolding last
+beginning-plays = record {
+  least = omega arith;
+  most = omega arith;
+  up = λ n p l. absurd (omega arith);
+  state = no-state-yet;
+}
+
+-- ---- a node more: those before it keep their parents, and an accepted one has a parent before it
+climbs-when-faultless : (t : Tree) (n : ℕ) → nodeFault t n ≡ NoFault → parent t n < n
+unfolding nodeFault
+climbs-when-faultless t n e =
+    leb-false n (parent t n)
+    (is-false (leb n (parent t n)) (λ no. let f : Parent n ≡ NoFault = rw no at e in let z : _≡_ {A = ℕ} 0 1 = cc in omega arith))
+
+-- what an accepted node record has passed
+accepted-newest : (t : Tree) → firstOf (nodeChecks t) ≡ Accepted → (t .count ≤ nodesMost) × (parent t (last t) < last t)
+unfolding nodeChecks newestFault
+accepted-newest t e = go (leb (t .count) nodesMost) refl (sound-when (newestFault t) (check-passed _ _ _ e .0))
+  where
+    go : (b : Bool) → leb (t .count) nodesMost ≡ b → cond b (nodeFault t (last t)) Count ≡ NoFault
+        → (t .count ≤ nodesMost) × (parent t (last t) < last t)
+    go true l f = (leb-true (t .count) nodesMost l, climbs-when-faultless t (last t) f)
+    go false l f = let z : _≡_ {A = ℕ} 0 1 = cc in absurd (omega arith)
+
+parent-is : (t : Tree) (n : ℕ) → 0 < n → parent t n ≡ getD (t .parents) n 0
+unfolding parent
+parent-is t zero a = absurd (omega arith)
+parent-is t (suc n) a = refl
+
+module _ {s : Replay} (h : Playing s) where
+  -- what the check of a new node asks of the nodes before it
+  pub node-climbs : (p w k : ℕ) → 0 < k → k ≤ last (grown p w (s .tree)) - 1 → getD (grown p w (s .tree) .parents) k 0 < k
+  unfolding last
+  node-climbs p w k a b =
+      let l = h .least in
+      rw (getD-set-other (s .tree .parents) (s .tree .count) k p 0 (λ e. omega arith)) (rw (parent-is (s .tree) k a) at (h .up k a (omega arith)))
+
+  -- the same nodes with another sound state
+  state-plays : (phase : Phase) (r : Rates) (c : Controller) → Sound c → Playing (within phase (s .tree) r c)
+  state-plays phase r c sound = record { least = h .least; most = h .most; up = h .up; state = sound }
+
+  stop-plays : (x : Refusal) → Playing (stopsAt x s .replay)
+  stop-plays x = state-plays Stopped (s .rates) (s .state) (h .state)
+
+  node-plays : (p w : ℕ) → firstOf (nodeChecks (grown p w (s .tree))) ≡ Accepted
+      → Playing (within (s .phase) (grown p w (s .tree)) (s .rates) (s .state))
+  node-plays p w e =
+      let newest = accepted-newest (grown p w (s .tree)) e in
+      record {
+        least = omega arith;
+        most = newest .0;
+        up = λ n a b.
+            ⊎-elim
+            (λ (i : n ≡ last (grown p w (s .tree))). rw i (newest .1))
+            (λ (l : n < last (grown p w (s .tree))). rw (parent-is (grown p w (s .tree)) n a) (node-climbs p w n a (omega arith)))
+            (eq-or-lt-of-le b);
+        state = h .state;
+      }
+
+  -- ---- each record
+  node-step-plays : (p w : ℕ) (v : Verdict) → firstOf (nodeChecks (grown p w (s .tree))) ≡ v
+      → Playing (nodeStep v (grown p w (s .tree)) s .replay)
+  unfolding nodeStep
+  node-step-plays p w Accepted e = node-plays p w e
+  node-step-plays p w (Refused x) e = stop-plays x
+
+  model-step-plays : (r : Rates) (v : Verdict) → Playing (modelStep v r s .replay)
+  unfolding modelStep
+  model-step-plays r Accepted = state-plays Priced r (s .state) (h .state)
+  model-step-plays r (Refused x) = stop-plays x
+
+  start-step-plays : (c : Controller) → Sound c → (v : Verdict) → Playing (startStep v c s .replay)
+  unfolding startStep
+  start-step-plays c sound Accepted = state-plays Running (s .rates) c sound
+  start-step-plays c sound (Refused x) = stop-plays x
+
+pub record-step-plays : (r : Record) (s : Replay) → Playing s → Playing (recordStep r s .replay)
+unfolding recordStep
+record-step-plays (Node p w) s h = node-step-plays h p w (firstOf (nodeChecks (grown p w (s .tree)))) refl
+record-step-plays (ModelOf r) s h = model-step-plays h r (firstOf (rateChecks r))
+record-step-plays (Start time) s h =
+    start-step-plays h (started (s .tree) (s .rates) time .state) (start-gives (s .tree) (s .rates) time)
+    (started (s .tree) (s .rates) time .answer)
+record-step-plays (BioOf b) s h = state-plays h (s .phase) (s .rates) (submitted b (s .state) .state) (submit-keeps (h .state) b)
+record-step-plays (Tick time) s h =
+    state-plays h (s .phase) (s .rates) (ticked time allRoom (s .state) .state) (ticked-keeps (h .state) time allRoom)
+record-step-plays Plan s h = state-plays h (s .phase) (s .rates) (planned (s .state) .state) (planned-keeps (h .state))
+record-step-plays (Vrate v) s h = state-plays h (s .phase) (s .rates) (vrated v (s .state) .state) (vrate-keeps (h .state) v)
+
+pub read-step-plays : (read : Read) (s : Replay) → Playing s → Playing (readStep read s .replay)
+unfolding readStep
+read-step-plays (Found r next) s h = go (inPhase (s .phase) (kindOf r))
+  where
+    go : (b : Bool) → Playing (cond b (recordStep r s) (stopsAt WrongPhase s) .replay)
+    go true = record-step-plays r s h
+    go false = stop-plays h WrongPhase
+read-step-plays End s h = h
+read-step-plays (Unread x) s h = stop-plays h x
+
+pub stepped-plays : (read : Read) (s : Replay) → Playing s → Playing (stepped read s .replay)
+unfolding stepped
+stepped-plays read s h = go (isStopped (s .phase))
+  where
+    go : (b : Bool) → Playing (cond b (silent s) (readStep read s) .replay)
+    go true = h
+    go false = read-step-plays read s h
+
+-- ---- ".. otherwise it goes on": a call, refused or not, leaves the replay in its phase
+pub calls-go-on : (r : Record) (s : Replay) → 4 ≤ kindOf r → recordStep r s .replay .phase ≡ s .phase
+unfolding recordStep kindOf
+calls-go-on (Node p w) s h = absurd (omega arith)
+calls-go-on (ModelOf r) s h = absurd (omega arith)
+calls-go-on (Start time) s h = absurd (omega arith)
+calls-go-on (BioOf b) s h = refl
+calls-go-on (Tick time) s h = refl
+calls-go-on Plan s h = refl
+calls-go-on (Vrate v) s h = refl
+
+-- ---- ".. first checked for 16, 17 and 18": what cannot be read stops the replay, then a record out of its phase; any other
+-- is carried out
+module _ (s : Replay) (goes : isStopped (s .phase) ≡ false) where
+  pub unread-stops : (x : Refusal) → stepped (Unread x) s ≡ stopsAt x s
+  unfolding stepped readStep
+  unread-stops x = rw goes
+
+  pub out-of-phase-stops : (r : Record) (next : ℕ) → inPhase (s .phase) (kindOf r) ≡ false → stepped (Found r next) s ≡ stopsAt WrongPhase s
+  unfolding stepped readStep
+  out-of-phase-stops r next out = rw (goes, out)
+
+  pub in-phase-is-carried-out : (r : Record) (next : ℕ) → inPhase (s .phase) (kindOf r) ≡ true → stepped (Found r next) s ≡ recordStep r s
+  unfolding stepped readStep
+  in-phase-is-carried-out r next here = rw (goes, here)
