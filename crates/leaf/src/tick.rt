@@ -3,7 +3,7 @@
 ghost use mathlib.Core.Path.{_≡_};
 ghost use Prim.Native.Nat.{_+_, _*_, _^_, _≤_, _<_};
 ghost use lib.ListN.{length};
-ghost use Rattle.rules.specs.Tick.{gained as gainedOf, repayment as repaymentOf, repaid as repaidOf, releaseIn, released as releasedOf, turn as turnOf, lentAfter};
+ghost use Rattle.rules.specs.Tick.{gained as gainedOf, repayment as repaymentOf, repaid as repaidOf, releaseIn, released as releasedOf, turn as leafTurn, lentAfter};
 ghost use Rattle.leaf.specs.Fit.{Fit, CanRepay, CanRelease, gainMost};
 ghost use Rattle.leaf.specs.Turns.{turned};
 ghost use Rattle.leaf.specs.Alone.{cappedWith};
@@ -113,7 +113,7 @@ pub fn capped(row: Row, waiting: u8) -> Row
 // "Then for each active leaf, .."
 pub fn turn(gain: Virt, share: u64, row: Row, queue: Queue, out: &mut [u32]) -> Turned
     requires { ⌜ Fit share row queue × (gain .0 ≤ gainMost) × (queue .len ≤ length (now out)) ⌝ }
-    ensures { λ r. ⌜ (r ≡ turned (turnOf gain share row queue)) × (now (out .exit) ≡ lentAfter (turnOf gain share row queue .ids) (now (out .entry))) ⌝ }
+    ensures { λ r. ⌜ (r ≡ turned (leafTurn gain share row queue)) × (now (out .exit) ≡ lentAfter (leafTurn gain share row queue .ids) (now (out .entry))) ⌝ }
 {
     let mut t = released(share, repaid(share, gained(gain, row)), queue, out);
     let left = t.row;

@@ -1,29 +1,92 @@
 -- The steps of a plan put together: what sharing asks of them, and that they are the plan of the rules.
 -- Assumes nothing.
-use mathlib.Core.Path.{_≡_, ap, _∙_}
-use mathlib.Core.Bool.{Bool, true, false}
+use mathlib.Core.Path.{_≡_, sym, ap, _∙_}
+use mathlib.Core.Bool.{Bool, true, false, _&&_}
 use mathlib.Core.List.{List}
-use Prim.Native.Nat.{ℕ, _*_, _≤_, _<_}
+use Prim.Native.Nat.{ℕ, _*_, _^_, _≤_, _<_}
 use native.Mathlib.Nat.{le-trans}
 use native.Mathlib.Omega.{arith}
 use lib.ListN.{getD}
 use borrow.Author.Tests.{eq-eqb, ne-eqb}
-use Rattle.rules.specs.Words.{table, has}
+use Rattle.rules.specs.Numbers.{nodesMost, leafMost}
+use Rattle.rules.specs.Words.{sumTo, table, has, setOf}
+use Rattle.rules.specs.Units.{abs}
 use Rattle.rules.specs.Tree.{baseShares}
-use Rattle.rules.specs.Budget.{rowAt, shareAt}
-use Rattle.rules.specs.Plan.{targetOf, isDonation, quietIn, activeAfter, targetsIn, donorsIn, closed, shared, plan}
+use Rattle.rules.specs.Budget.{rowAt, queueAt, shareAt}
+use Rattle.rules.specs.Plan.{usageAll, isQuiet, forgiven, targetOf, isDonor, isDonation, quietIn, activeAfter, targetsIn, donorsIn, closed, shared, plan}
 use Rattle.rules.specs.Refusals.{planChecks}
 use Rattle.rules.specs.Entries.{plannedBy, planned}
 use Rattle.rules.specs.Invariant.{worthMost, Sound}
 use Rattle.rules.specs.Laws.Bools.{true-not-false, is-false}
+use Rattle.rules.specs.Laws.Sets.{set-cong}
+use Rattle.rules.specs.Laws.Sums.{sum-cong}
+use Rattle.rules.specs.Laws.Tables.{table-at, table-cong}
+use Rattle.rules.specs.Laws.States.{usage-small}
 use Rattle.rules.specs.Laws.Trees.{Within, leaf-pos}
 use Rattle.rules.specs.Laws.Plans.{closed-worth, after-within, donor-active, donor-is}
 use Rattle.donation.specs.Donation.{Donation}
 use Rattle.donation.specs.Donation as donation
+use Rattle.leaf.specs.Alone.{staysWith, isDonorWith, donor-by-count}
+use Rattle.rules.specs.declared.units.Abs.{Abs}
 use Rattle.rules.specs.declared.budget.Controller.{Controller}
 use Rattle.rules.specs.declared.budget.Outcome.{Outcome}
 use Rattle.rules.specs.declared.refusals.Verdict.the-variants.{Accepted, Refused}
 use Rattle.rules.specs.declared.refusals.Refusal.the-variants.{NothingPassed}
+
+-- ---- what the plan reads of each leaf before it works anything out: its usage, and how many wait there
+abbrev pub Usages : Controller → List Abs → Type 0
+Usages c usages = usages ≡ table (λ n. rowAt c n .usage)
+
+abbrev pub Waiting : Controller → List ℕ → Type 0
+Waiting c waiting = waiting ≡ table (λ n. queueAt c n .len)
+
+module _ (c : Controller) where
+  usage-at : {usages : List Abs} → Usages c usages → (n : ℕ) → n < nodesMost → getD usages n (abs 0) ≡ rowAt c n .usage
+  usage-at e n h = ap (λ (l : List Abs). getD l n (abs 0)) e ∙ table-at (λ (k : ℕ). rowAt c k .usage) n (abs 0) h
+
+  waiting-here : {waiting : List ℕ} → Waiting c waiting → (n : ℕ) → n < nodesMost → getD waiting n 0 ≡ queueAt c n .len
+  waiting-here e n h = ap (λ (l : List ℕ). getD l n 0) e ∙ table-at (λ (k : ℕ). queueAt c k .len) n 0 h
+
+  usage-of-all : {usages : List Abs} → Usages c usages
+      → sumTo (λ n. getD usages n (abs 0) .0) leafMost ≡ sumTo (λ n. rowAt c n .usage .0) leafMost
+  usage-of-all {usages} e =
+      sum-cong (λ n. getD usages n (abs 0) .0) (λ n. rowAt c n .usage .0) leafMost
+      (λ n p h. ap (λ (u : Abs). u .0) (usage-at e n (omega arith)))
+
+  pub used-little : Sound c → {usages : List Abs} → Usages c usages → sumTo (λ n. getD usages n (abs 0) .0) leafMost ≤ 2 ^ 38
+  used-little s e = rw (usage-of-all e) (usage-small s)
+
+  pub quiet-by-usages : {usages : List Abs} {usage : Abs} {quiet : Bool} → Usages c usages
+      → usage ≡ abs (sumTo (λ n. getD usages n (abs 0) .0) leafMost) → quiet ≡ isQuiet usage (c .clock .since) → quiet ≡ quietIn c
+  unfolding quietIn usageAll
+  quiet-by-usages e f q = q ∙ ap (λ (u : Abs). isQuiet u (c .clock .since)) (f ∙ ap abs (usage-of-all e))
+
+  pub active-by-waiting : (quiet : Bool) {waiting : List ℕ} {active : ℕ} → Waiting c waiting
+      → active ≡ setOf (λ n. has (c .active) n && staysWith (forgiven quiet (rowAt c n)) (getD waiting n 0))
+      → active ≡ activeAfter quiet c
+  unfolding activeAfter
+  active-by-waiting quiet e f =
+      f ∙ set-cong _ _ nodesMost
+      (λ n h. ap (λ (w : ℕ). has (c .active) n && staysWith (forgiven quiet (rowAt c n)) w) (waiting-here e n h))
+
+  pub targets-by-usages : {usages : List Abs} {targets : List ℕ} → Usages c usages
+      → targets ≡ table (λ n. targetOf (c .clock .since) (getD usages n (abs 0)))
+      → targets ≡ table (λ n. targetOf (c .clock .since) (rowAt c n .usage))
+  targets-by-usages e f = f ∙ table-cong _ _ (λ n h. ap (targetOf (c .clock .since)) (usage-at e n h))
+
+  pub donors-by-waiting : (quiet : Bool) (active : ℕ) (bases targets : List ℕ) {waiting : List ℕ} {donors : ℕ} → Waiting c waiting
+      → donors ≡ setOf (λ n. has active n && isDonorWith (getD targets n 0) (getD bases n 0) (forgiven quiet (rowAt c n)) (getD waiting n 0))
+      → donors ≡ donorsIn quiet active bases targets c
+  unfolding donorsIn
+  donors-by-waiting quiet active bases targets {waiting} e f =
+      f ∙ set-cong _ _ nodesMost (λ n h. ap (λ (b : Bool). has active n && b) (each n h))
+    where
+      each : (n : ℕ) → n < nodesMost
+          → isDonorWith (getD targets n 0) (getD bases n 0) (forgiven quiet (rowAt c n)) (getD waiting n 0)
+          ≡ isDonor (getD targets n 0) (getD bases n 0) (forgiven quiet (rowAt c n)) (queueAt c n)
+      each n h =
+          ap (isDonorWith (getD targets n 0) (getD bases n 0) (forgiven quiet (rowAt c n))) (waiting-here e n h)
+          ∙ sym (donor-by-count (getD targets n 0) (getD bases n 0) (forgiven quiet (rowAt c n)) (queueAt c n))
 
 -- ---- who is active once the plan is over
 pub still-within : {c : Controller} → Sound c → (quiet : Bool) (active : ℕ) → active ≡ activeAfter quiet c → Within (c .tree) active

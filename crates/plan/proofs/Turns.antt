@@ -1,7 +1,8 @@
--- What the turns of the loops rest on: a set that is built node by node, how many wait at a place, and how large a target is.
+-- What the turns of the loops rest on: a set that is built node by node, one from which nodes are cleared, how many wait at
+-- a place, and how large a target is.
 -- Assumes nothing.
 use mathlib.Core.Path.{_≡_, refl, sym, ap, _∙_}
-use mathlib.Core.Bool.{Bool, true, false, _||_}
+use mathlib.Core.Bool.{Bool, true, false, not, _&&_, _||_, and-true}
 use mathlib.Core.List.{List, [], _∷_}
 use mathlib.Core.Logic.{⊎-elim, dite}
 use Prim.Native.Nat.{ℕ, zero, suc, _+_, _^_, _≤_, _<_}
@@ -9,21 +10,27 @@ use native.Mathlib.Nat.{add-zero, lt-of-not-le, le-of-suc-le-suc, lt-of-lt-of-le
 use native.Mathlib.Numerals.{add-one}
 use native.Mathlib.Decide.{decLt}
 use native.Mathlib.Omega.{arith}
-use lib.Dec.{eqb}
+use lib.Dec.{eqb, leb}
 use lib.ListN.{getD}
 use lib.Pow.{pow-mono}
-use borrow.Author.Tests.{eq-eqb, ne-eqb}
+use borrow.Author.Tests.{le-leb, lt-leb, eq-eqb, ne-eqb}
 use Rattle.rules.specs.Numbers.{WHOLE, nodesMost}
 use Rattle.rules.specs.Words.{has, setTo, setOf}
 use Rattle.rules.specs.Budget.{emptyQueue}
 use Rattle.rules.specs.Plan.{usedShare, targetOf}
-use Rattle.rules.specs.Laws.Bools.{or-right, or-neither}
-use Rattle.rules.specs.Laws.Sets.{set-small, set-ext, has-set, has-past, has-setOf}
+use Rattle.rules.specs.Laws.Bools.{and-not-right, or-right, or-neither}
+use Rattle.rules.specs.Laws.Sets.{set-small, set-cong, set-back, set-ext, has-set, has-past, has-setOf}
 use Rattle.rules.specs.Laws.Units.{ceil-least}
 use Rattle.leaf.specs.Alone.{some}
 use Rattle.rules.specs.declared.units.Abs.{Abs}
 use Rattle.rules.specs.declared.units.Virt.{Virt}
 use Rattle.rules.specs.declared.budget.Queue.{Queue}
+
+-- a node is before n, n itself, or behind it
+by-place : {P : Type 0} (k n : ℕ) → (k < n → P) → (k ≡ n → P) → (n < k → P) → P
+by-place k n before here behind =
+    dite (decLt k n) before
+    (λ g. let m : n ≤ k = le-of-suc-le-suc (lt-of-not-le g) in ⊎-elim (λ (i : n ≡ k). here (sym i)) behind (eq-or-lt-of-le m))
 
 or-nothing : (a b : Bool) → b ≡ false → (a || b) ≡ a
 or-nothing true b e = refl
@@ -55,10 +62,7 @@ module _ (p : ℕ → Bool) (s n : ℕ) (e : s ≡ setTo p n) where
         ∙ sym (has-past p (n + 1) k (omega arith))
 
     each : (k : ℕ) → (has s k || eqb k n) ≡ has (setTo p (n + 1)) k
-    each k =
-        dite (decLt k n) (λ (l : k < n). below k l)
-        (λ g. let m : n ≤ k = le-of-suc-le-suc (lt-of-not-le g) in
-        ⊎-elim (λ (i : n ≡ k). here k (sym i)) (λ (l : n < k). above k l) (eq-or-lt-of-le m))
+    each k = by-place k n (below k) (here k) (above k)
 
     pub put-in : setOf (λ k. has s k || eqb k n) ≡ setTo p (n + 1)
     put-in =
@@ -66,6 +70,48 @@ module _ (p : ℕ → Bool) (s n : ℕ) (e : s ≡ setTo p n) where
         set-ext (setOf (λ k. has s k || eqb k n)) (setTo p (n + 1)) nodesMost (set-small (λ k. has s k || eqb k n) nodesMost)
         (lt-of-lt-of-le (set-small p (n + 1)) (pow-mono last))
         (λ k h. has-setOf (λ j. has s j || eqb j n) k h ∙ each k)
+
+-- ---- nodes cleared one by one: of those before n the ones are left that p holds of, and from n on all
+abbrev pub leftAt : ℕ → (ℕ → Bool) → ℕ → ℕ → Bool
+leftAt active p n k = has active k && (leb n k || p k)
+
+module _ (active : ℕ) (p : ℕ → Bool) where
+  pub none-cleared : active < 2 ^ nodesMost → active ≡ setOf (leftAt active p 0)
+  none-cleared h =
+      sym (set-back active nodesMost h)
+      ∙ set-cong (has active) (leftAt active p 0) nodesMost (λ k l. rw (le-leb 0 k (omega arith), and-true))
+
+  pub all-cleared : setOf (leftAt active p nodesMost) ≡ setOf (λ k. has active k && p k)
+  all-cleared = set-cong (leftAt active p nodesMost) (λ k. has active k && p k) nodesMost (λ k l. rw (lt-leb nodesMost k l))
+
+  module _ (s n : ℕ) (e : s ≡ setOf (leftAt active p n)) where
+    -- a node that is left
+    pub left-in : p n ≡ true → s ≡ setOf (leftAt active p (n + 1))
+    left-in f = e ∙ set-cong (leftAt active p n) (leftAt active p (n + 1)) nodesMost (λ k l. ap (λ (b : Bool). has active k && b) (same k))
+      where
+        same : (k : ℕ) → (leb n k || p k) ≡ (leb (n + 1) k || p k)
+        same k =
+            by-place k n
+            (λ (l : k < n). rw (lt-leb n k l, lt-leb (n + 1) k (omega arith)))
+            (λ (i : k ≡ n). rw i (or-right (leb n n) (p n) f ∙ sym (or-right (leb (n + 1) n) (p n) f)))
+            (λ (l : n < k). rw (le-leb n k (omega arith), le-leb (n + 1) k (omega arith)))
+
+    -- a node that is cleared
+    pub taken-out : p n ≡ false → setOf (λ k. has s k && not (eqb k n)) ≡ setOf (leftAt active p (n + 1))
+    taken-out f = set-cong (λ k. has s k && not (eqb k n)) (leftAt active p (n + 1)) nodesMost (λ k l. rw (was k l) (same k))
+      where
+        was : (k : ℕ) → k < nodesMost → has s k ≡ leftAt active p n k
+        was k l = ap (λ (t : ℕ). has t k) e ∙ has-setOf (leftAt active p n) k l
+
+        same : (k : ℕ) → (leftAt active p n k && not (eqb k n)) ≡ leftAt active p (n + 1) k
+        same k =
+            by-place k n
+            (λ (l : k < n). rw (ne-eqb k n (λ z. omega arith), lt-leb n k l, lt-leb (n + 1) k (omega arith), and-true))
+            (λ (i : k ≡ n).
+            and-not-right (leftAt active p n k) (not (eqb k n)) (rw (eq-eqb k n i))
+            ∙ sym (and-not-right (has active k) (leb (n + 1) k || p k) (rw i (or-neither (leb (n + 1) n) (p n) (lt-leb (n + 1) n (omega arith)) f))))
+            (λ (l : n < k).
+            rw (ne-eqb k n (λ z. omega arith), le-leb n k (omega arith), le-leb (n + 1) k (omega arith)) (and-true (has active k && true)))
 
 -- no bio waits past the last queue, whatever else stands there
 pub waiting-at : (queues : List Queue) (n : ℕ) → getD queues n (some 0) .len ≡ getD queues n emptyQueue .len

@@ -1,14 +1,15 @@
 // The entry plan: debts are forgiven, idle leaves go inactive, base shares are worked out anew and donated, and usage
 // and E start at 0. Each function is one step; what a step does to one leaf is the crate leaf's.
 ghost use mathlib.Core.Path.{_≡_};
-ghost use mathlib.Core.Bool.{Bool, true, false, _&&_};
+ghost use mathlib.Core.Bool.{Bool, true, false, _&&_, _||_};
 ghost use Prim.Native.Nat.{ℕ, _+_, _^_, _*_, _≤_, _<_};
+ghost use lib.Dec.{leb};
 ghost use lib.ListN.{getD};
 ghost use Rattle.rules.specs.Numbers.{leafMost, sinceMost};
-ghost use Rattle.rules.specs.Words.{sumTo, table, has as member, setTo};
+ghost use Rattle.rules.specs.Words.{sumTo, table, has as member, setTo, setOf};
 ghost use Rattle.rules.specs.Units.{abs};
 ghost use Rattle.rules.specs.Budget.{emptyRow, rowAt, shareAt};
-ghost use Rattle.rules.specs.Plan.{isQuiet, quietIn, forgiven as forgivenOf, rested, restarted, targetOf, activeAfter, donorsIn, closed as closedOf, isDonation, shared as sharedOf};
+ghost use Rattle.rules.specs.Plan.{isQuiet, forgiven as forgivenOf, rested, restarted, targetOf, closed as closedOf, isDonation, shared as sharedOf};
 ghost use Rattle.rules.specs.Entries.{planned};
 ghost use Rattle.rules.specs.Invariant.{worthMost, Sound};
 ghost use Rattle.leaf.specs.Alone.{staysWith, isDonorWith};
@@ -30,19 +31,19 @@ use rules::units::Abs;
 use rules::units::Virt;
 use sets::has;
 use sets::insert;
+use sets::remove;
 use tree::shares::base_shares;
 
 // The usage of all leaves.
-fn usage_all(rows: [Row; 64]) -> Abs
-    requires { ⌜ sumTo (λ n. getD rows n emptyRow .usage .0) leafMost ≤ 2 ^ 38 ⌝ }
-    ensures { λ r. ⌜ r ≡ abs (sumTo (λ n. getD rows n emptyRow .usage .0) leafMost) ⌝ }
+fn usage_all(usages: [Abs; 64]) -> Abs
+    requires { ⌜ sumTo (λ n. getD usages n (abs 0) .0) leafMost ≤ 2 ^ 38 ⌝ }
+    ensures { λ r. ⌜ r ≡ abs (sumTo (λ n. getD usages n (abs 0) .0) leafMost) ⌝ }
 {
     let mut sum: u64 = 0;
     let mut n: usize = 0;
     while n < 63 {
         n += 1;
-        let row = rows[n];
-        let usage = row.usage;
+        let usage = usages[n];
         sum += usage.0;
     }
     Abs(sum)
@@ -57,17 +58,6 @@ fn is_quiet(usage: Abs, since: Virt) -> bool
     2 * used.0 < since.0
 }
 
-// Whether the device was quiet since the last plan.
-fn quiet_in(c: Controller) -> bool
-    requires { ⌜ sumTo (λ n. rowAt c n .usage .0) leafMost ≤ 2 ^ 38 ⌝ }
-    ensures { λ r. ⌜ r ≡ quietIn c ⌝ }
-{
-    let rows = c.rows;
-    let clock = c.clock;
-    let since = clock.since;
-    is_quiet(usage_all(rows), since)
-}
-
 // A set built node by node: of those passed, the ones that were inside.
 fn grown(set: u64, n: usize, inside: bool) -> u64
     requires { ⌜ n < 64 ⌝ }
@@ -76,15 +66,19 @@ fn grown(set: u64, n: usize, inside: bool) -> u64
     if inside { insert(set, n) } else { set }
 }
 
-// Whether a leaf is active and stays so, its debt forgiven.
-fn keeps(active: bool, quiet: bool, row: Row, waiting: u8) -> bool
-    ensures { λ r. ⌜ r ≡ (active && staysWith (forgivenOf quiet row) waiting) ⌝ }
+// Whether an active leaf stays so, its debt forgiven.
+fn keeps(quiet: bool, row: Row, waiting: u8) -> bool
+    ensures { λ r. ⌜ r ≡ staysWith (forgivenOf quiet row) waiting ⌝ }
 {
-    if active {
-        stays(forgiven(quiet, row), waiting)
-    } else {
-        false
-    }
+    stays(forgiven(quiet, row), waiting)
+}
+
+// "becomes inactive": the bit of a leaf that does not stay is cleared. Of the nodes before n those stay that p holds of.
+fn cleared(set: u64, n: usize, stay: bool) -> u64
+    requires { ⌜ n < 64 ⌝ }
+    ensures { λ r. ⌜ ((active : ℕ) (p : ℕ → Bool) → set ≡ setOf (λ k. member active k && (leb n k || p k)) → stay ≡ p n → r ≡ setOf (λ k. member active k && (leb (n + 1) k || p k))) ⌝ }
+{
+    if stay { set } else { remove(set, n) }
 }
 
 // Whether a leaf is active and can give, its debt forgiven.
@@ -99,31 +93,28 @@ fn gives(active: bool, quiet: bool, target: u32, base: u32, row: Row, waiting: u
 }
 
 // "A leaf with no accepted bio .. becomes inactive": those active after the plan.
-fn active_after(c: Controller, quiet: bool) -> u64
-    ensures { λ r. ⌜ r ≡ activeAfter quiet c ⌝ }
+fn active_after(active: u64, quiet: bool, rows: [Row; 64], waiting: [u8; 64]) -> u64
+    ensures { λ r. ⌜ r ≡ setOf (λ n. member active n && staysWith (forgivenOf quiet (getD rows n emptyRow)) (getD waiting n 0)) ⌝ }
 {
-    let active = c.active;
-    let mut kept: u64 = 0;
+    let mut kept = active;
     let mut n: usize = 0;
     while n < 64 {
-        let row = c.rows[n];
-        let queue = c.queues[n];
-        kept = grown(kept, n, keeps(has(active, n), quiet, row, queue.len));
+        let row = rows[n];
+        kept = cleared(kept, n, keeps(quiet, row, waiting[n]));
         n += 1;
     }
     kept
 }
 
 // The target of each leaf, by its usage since the last plan.
-fn targets_in(rows: [Row; 64], since: Virt) -> [u32; 64]
+fn targets_in(usages: [Abs; 64], since: Virt) -> [u32; 64]
     requires { ⌜ (0 < since .0) × (since .0 ≤ sinceMost) ⌝ }
-    ensures { λ r. ⌜ r ≡ table (λ n. targetOf since (getD rows n emptyRow .usage)) ⌝ }
+    ensures { λ r. ⌜ r ≡ table (λ n. targetOf since (getD usages n (abs 0))) ⌝ }
 {
     let mut targets = [0u32; 64];
     let mut n: usize = 0;
     while n < 64 {
-        let row = rows[n];
-        let usage = row.usage;
+        let usage = usages[n];
         targets[n] = target_of(since, usage) as u32;
         n += 1;
     }
@@ -132,23 +123,23 @@ fn targets_in(rows: [Row; 64], since: Virt) -> [u32; 64]
 
 // The active leaves that can give.
 fn donors_in<'a>(
-    c: Controller,
-    quiet: bool,
     active: u64,
+    quiet: bool,
+    rows: [Row; 64],
+    waiting: [u8; 64],
     bases: &'a [u32; 64],
     targets: &'a [u32; 64],
 ) -> u64
-    ensures { λ r. ⌜ r ≡ donorsIn quiet active (now (bases .entry)) (now (targets .entry)) c ⌝ }
+    ensures { λ r. ⌜ r ≡ setOf (λ n. member active n && isDonorWith (getD (now (targets .entry)) n 0) (getD (now (bases .entry)) n 0) (forgivenOf quiet (getD rows n emptyRow)) (getD waiting n 0)) ⌝ }
 {
     let mut donors: u64 = 0;
     let mut n: usize = 0;
     while n < 64 {
-        let row = c.rows[n];
-        let queue = c.queues[n];
+        let row = rows[n];
         donors = grown(
             donors,
             n,
-            gives(has(active, n), quiet, targets[n], bases[n], row, queue.len),
+            gives(has(active, n), quiet, targets[n], bases[n], row, waiting[n]),
         );
         n += 1;
     }
@@ -213,13 +204,23 @@ pub fn plan(c: Controller) -> Outcome
             state: c,
         };
     }
-    let quiet = quiet_in(c);
-    let active = active_after(c, quiet);
+    // What the steps look at is read here once: each that took the whole state would copy it.
+    let rows = c.rows;
+    let mut usages = [Abs(0); 64];
+    let mut waiting = [0u8; 64];
+    for n in 0..64usize {
+        let row = c.rows[n];
+        let usage = row.usage;
+        usages[n] = usage;
+        let queue = c.queues[n];
+        waiting[n] = queue.len;
+    }
+    let quiet = is_quiet(usage_all(usages), since);
+    let active = active_after(c.active, quiet, rows, waiting);
     let tree = c.tree;
     let bases = base_shares(tree, active);
-    let rows = c.rows;
-    let targets = targets_in(rows, since);
-    let donors = donors_in(c, quiet, active, &bases, &targets);
+    let targets = targets_in(usages, since);
+    let donors = donors_in(active, quiet, rows, waiting, &bases, &targets);
     let books = closed(c, quiet, active);
     let state = shared(books, active, donors, bases, targets);
     Outcome {

@@ -14,7 +14,7 @@ use Rattle.rules.specs.Numbers.{nodesMost, queueRoom, costMost, debtMost}
 use Rattle.rules.specs.Words.{has}
 use Rattle.rules.specs.Cost.{endOf, isForced, bioInRange}
 use Rattle.rules.specs.Tree.{isLeaf}
-use Rattle.rules.specs.Budget.{emptyQueue, rowAt, queueAt, shareAt, putLeaf, noted, rebased, reshared, entered, rowAfter, queueAfter, endsDonation, answerIn, applied, settled, submission}
+use Rattle.rules.specs.Budget.{emptyRow, emptyQueue, rowAt, queueAt, shareAt, putLeaf, rebased, reshared, entered, answerTo, rowAfter, queueAfter, endsDonation, answerIn, applied, settled, submission}
 use Rattle.rules.specs.Refusals.{Check, firstOf, wouldBe, costChecks, roomChecks, submitChecks}
 use Rattle.rules.specs.Entries.{costing, costingBy, submittedBy, submitted}
 use Rattle.rules.specs.Invariant.{worthMost, Sound}
@@ -39,8 +39,9 @@ use Rattle.rules.specs.declared.refusals.Costing.the-variants.{Costs, Refused a
 use Rattle.rules.specs.declared.refusals.Answer.{Answer}
 use Rattle.rules.specs.declared.refusals.Answer.the-variants.{Issued, Waits, OnDebt, Refused as Declined}
 use Rattle.leaf.specs.Alone.{some, answerWith, answer-by-count, notedAt, issued-fits}
-use Rattle.leaf.specs.Fit.{Priced, CanTake, HasRoom, active-is-fit, cheap-is-priced}
-use Rattle.submit.specs.Judged.{Ready, CanSettle, judgedBy, judged}
+use Rattle.leaf.specs.Fit.{CanTake, HasRoom, active-is-fit}
+use Rattle.submit.specs.declared.Judged.{Judged}
+use Rattle.submit.specs.OnLeaf.{CanJudge, onLeafBy, onLeaf}
 
 -- ---- refusals 7 and 8
 module _ (a : Answer) (cost : Abs) (row : Row) (n : ℕ) where
@@ -68,12 +69,78 @@ module _ (a : Answer) (cost : Abs) (row : Row) (n : ℕ) where
   unfolding roomChecks
   declines x e = rw e
 
+-- ---- a bio on its leaf: the answer and the verdict, as the code works them out
+placed : (cost : Abs) (row : Row) (n : ℕ) → firstOf (roomChecks Waits cost row (some n)) ≡ Accepted → n < queueRoom
+unfolding roomChecks
+placed cost row n = go (leb queueRoom n) refl
+  where
+    go : (t : Bool) → leb queueRoom n ≡ t → cond t (Refused QueueFull) Accepted ≡ Accepted → n < queueRoom
+    go true e i = let z : _≡_ {A = ℕ} 0 1 = cc in absurd (omega arith)
+    go false e i = leb-false queueRoom n e
+
+module _ {b : Bio} {cost : Abs} {share : ℕ} {row : Row} {queue : Queue} {forced : Bool} {answer : Answer} {verdict : Verdict}
+    (can : CanJudge b cost share row queue) (f : forced ≡ isForced b) (a : answer ≡ answerWith forced cost share row (queue .len))
+    (v : verdict ≡ firstOf (roomChecks answer cost row (some (queue .len))))
+  where
+    answer-is : answer ≡ answerTo (isForced b) cost share row queue
+    answer-is = a ∙ rw f (sym (answer-by-count (isForced b) cost share row queue))
+
+    verdict-is : verdict ≡ firstOf (roomChecks (answerTo (isForced b) cost share row queue) cost row queue)
+    unfolding roomChecks
+    verdict-is = v ∙ rw answer-is
+
+    pub can-take : CanTake answer cost share row
+    can-take = record {
+      books = can .fit .books;
+      cheap = can .cheap;
+      fitting = λ i. issued-fits forced cost share row (queue .len) (sym a ∙ i);
+    }
+
+    pub has-room : verdict ≡ Accepted → HasRoom answer queue
+    has-room e = record {
+      sound = can .fit .waiting;
+      room = λ i. placed cost row (queue .len) (rw i at (sym v ∙ e));
+    }
+
+    pub accepts : verdict ≡ Accepted → {end : ℕ} {taken last : Row} {queued : Queue} → end ≡ endOf b
+        → taken ≡ rowAfter answer cost share row → last ≡ notedAt end taken → queued ≡ queueAfter answer (b .id) cost queue
+        → _≡_ {A = Judged} (record { answer = answer; row = last; queue = queued }) (onLeaf b cost share row queue)
+    unfolding onLeaf onLeafBy
+    accepts e n t l q =
+        rw (l, q, t, n, answer-is)
+        (ap (λ (x : Verdict). onLeafBy x (answerTo (isForced b) cost share row queue) b cost share row queue) (sym e ∙ verdict-is))
+
+    pub refuses : (x : Refusal) → verdict ≡ Refused x
+        → _≡_ {A = Judged} (record { answer = Declined x; row = row; queue = queue }) (onLeaf b cost share row queue)
+    unfolding onLeaf onLeafBy
+    refuses x e =
+        ap (λ (y : Verdict). onLeafBy y (answerTo (isForced b) cost share row queue) b cost share row queue) (sym e ∙ verdict-is)
+
+-- no bio adds to its leaf's budget
+no-more : (a : Answer) (cost : Abs) (share : ℕ) (r : Row) → rowAfter a cost share r .budget .0 ≤ r .budget .0
+unfolding rowAfter
+no-more Issued cost share r = omega arith
+no-more Waits cost share r = omega arith
+no-more OnDebt cost share r = omega arith
+no-more (Declined x) cost share r = omega arith
+
+no-budget-gained : (b : Bio) (cost : Abs) (share : ℕ) (row : Row) (queue : Queue)
+    → onLeaf b cost share row queue .row .budget .0 ≤ row .budget .0
+unfolding onLeaf onLeafBy
+no-budget-gained b cost share row queue =
+    let answer : Answer = answerTo (isForced b) cost share row queue in
+    go answer (firstOf (roomChecks answer cost row queue))
+  where
+    go : (a : Answer) (v : Verdict) → onLeafBy v a b cost share row queue .row .budget .0 ≤ row .budget .0
+    go a Accepted = no-more a cost share row
+    go a (Refused x) = omega arith
+
 -- ---- the bio's node
 pub leaf-node : (t : Tree) (n : ℕ) → SoundTree t → isLeaf t n ≡ true → n < nodesMost
 leaf-node t n s leaf = omega (arith, leaf-last t n leaf, last-most s)
 
-pub ready-node : {b : Bio} {cost : Abs} {c : Controller} → Ready b cost c → b .node < nodesMost
-ready-node {b} {cost} {c} r = active-node (r .sound .tree) (c .active) (r .sound .active) (b .node) (r .active)
+pub at-node : {m n : ℕ} → m ≡ n → n < nodesMost → m < nodesMost
+at-node e h = rw e h
 
 -- ---- "1. An inactive leaf becomes active .."
 pub stays : (n : ℕ) (c : Controller) → has (c .active) n ≡ true → entered n c ≡ c
@@ -84,122 +151,68 @@ pub wakes : {c : Controller} → Sound c → (n : ℕ) → has (c .active) n ≡
 unfolding entered
 wakes {c} s n e = rw e (activated-is n c (s .idle n e .no-budget))
 
-pub woken-within : {c : Controller} → Sound c → (n : ℕ) → isLeaf (c .tree) n ≡ true → has (c .active) n ≡ false → Within (c .tree) (activeWith n c)
+pub woken-within : {c : Controller} → Sound c → (n : ℕ) → isLeaf (c .tree) n ≡ true → has (c .active) n ≡ false
+    → Within (c .tree) (activeWith n c)
 unfolding rebased reshared
 woken-within {c} s n leaf e = (rw (wakes s n e) at (entering-keeps s n leaf)) .active
 
--- ---- what the code reads at the bio's node
-pub at-node : {m n : ℕ} → m ≡ n → n < nodesMost → m < nodesMost
-at-node e h = rw e h
+-- ---- the leaf is put back into the state in which it is active
+-- a bio in range whose leaf is active, with its cost
+pub record Ready (b : Bio) (cost : Abs) (c : Controller) : Type 0 where
+  pub sound : Sound c
+  pub active : has (c .active) (b .node) ≡ true
+  pub range : bioInRange b ≡ true
+  pub same : cost ≡ costIn c b
+  pub cheap : cost .0 ≤ costMost
+
+abbrev put : ℕ → Judged → Controller → Controller
+put n j c = putLeaf n (j .row) (j .queue) c
+
+-- "4. If the bio waited .."
+abbrev landed : ℕ → Judged → Controller → Submitted
+landed n j c = record {
+  answer = j .answer;
+  state = cond (endsDonation (j .answer) && has (c .donors) n) (rebased (c .active) (put n j c)) (put n j c);
+}
 
 same-place : {A : Type 0} (l : List A) (n : ℕ) (d e : A) → n < length l → getD l n d ≡ getD l n e
 same-place l n d e h = sym (getD-set-same l n (getD l n d) e h) ∙ ap (λ k. getD k n e) (set-getD l n d)
 
-pub queue-read : {c : Controller} → Sound c → (n : ℕ) → n < nodesMost → getD (c .queues) n (some 0) ≡ queueAt c n
-queue-read {c} s n h = same-place (c .queues) n (some 0) emptyQueue (omega (arith, s .queues-all))
-
--- ---- the answer on the leaf
-pub can-take : {a : Answer} {b : Bio} {cost : Abs} {c : Controller} {n share : ℕ} → CanSettle a b cost c → n ≡ b .node → share ≡ shareAt c n
-    → CanTake a cost share (rowAt c n)
-can-take {a} {b} {cost} {c} w m s =
-    rw (s, m)
-    (record {
-      books = active-is-fit (w .ready .sound) (b .node) (w .ready .active) .books;
-      cheap = w .ready .cheap;
-      fitting = w .fitting;
-    })
-
-pub has-room : {a : Answer} {b : Bio} {cost : Abs} {c : Controller} {n : ℕ} → CanSettle a b cost c → n ≡ b .node → HasRoom a (getD (c .queues) n (some 0))
-has-room {a} {b} {cost} {c} {n} w m =
-    rw (queue-read (w .ready .sound) n (at-node m (ready-node (w .ready))), m)
-    (record { sound = w .ready .sound .queue (b .node); room = w .place })
-
-pub applies : {a : Answer} {b : Bio} {cost : Abs} {c : Controller} {n end share : ℕ} {taken last : Row} {queued : Queue}
-    → CanSettle a b cost c → n ≡ b .node → share ≡ shareAt c n → end ≡ endOf b
-    → taken ≡ rowAfter a cost share (rowAt c n) → last ≡ notedAt end taken → queued ≡ queueAfter a (b .id) cost (getD (c .queues) n (some 0))
-    → putLeaf n last queued c ≡ applied a b c
-unfolding applied
-applies {a} {b} {cost} {c} {n} w m s e t l q =
-    rw (l, q, t, e, s, queue-read (w .ready .sound) n (at-node m (ready-node (w .ready))), m, w .ready .same)
-
--- ---- "4. If the bio waited .."
-no-more : (a : Answer) (cost : Abs) (share : ℕ) (r : Row) → rowAfter a cost share r .budget .0 ≤ r .budget .0
-unfolding rowAfter
-no-more Issued cost share r = omega arith
-no-more Waits cost share r = omega arith
-no-more OnDebt cost share r = omega arith
-no-more (Declined x) cost share r = omega arith
-
-pub can-rebase : {a : Answer} {b : Bio} {cost : Abs} {c : Controller} → CanSettle a b cost c
-    → SoundTree (applied a b c .tree) × Within (applied a b c .tree) (c .active)
-    × ((n : ℕ) → rowAt (applied a b c) n .budget .0 * shareAt (applied a b c) n ≤ worthMost)
-unfolding applied
-can-rebase {a} {b} {cost} {c} w =
-    let s : Sound c = w .ready .sound in (
-      s .tree,
-      s .active,
-      put-each (λ k r q. r .budget .0 * shareAt c k ≤ worthMost) (b .node)
-          (noted b (rowAfter a (costIn c b) (shareAt c (b .node)) (rowAt c (b .node)))) (queueAfter a (b .id) (costIn c b) (queueAt c (b .node))) c
-          (s .rows-all) (s .queues-all) (ready-node (w .ready))
-          (le-trans (mul-le-mul (no-more a (costIn c b) (shareAt c (b .node)) (rowAt c (b .node))) (omega arith)) (s .worth-most (b .node)))
-          (λ k e. s .worth-most k),
-    )
-
-module _ (a : Answer) (b : Bio) (c : Controller) {x y : Bool} {n : ℕ} {after : Controller}
-    (p : x ≡ endsDonation a) (q : y ≡ has (c .donors) n) (m : n ≡ b .node) (e : after ≡ applied a b c) where
-  pub ends : {r : Controller} → (x && y) ≡ true → r ≡ rebased (c .active) after → r ≡ settled a b c
-  unfolding settled
-  ends {r} t i = i ∙ rw (← e, ← m, ← q, ← p, t)
-
-  pub goes-on : (x && y) ≡ false → after ≡ settled a b c
-  unfolding settled
-  goes-on t = rw (← e, ← m, ← q, ← p, t)
-
--- ---- the answer and the verdict, as the code works them out
-pub priced : {b : Bio} {cost : Abs} {c : Controller} {n share : ℕ} → Ready b cost c → n ≡ b .node → share ≡ shareAt c n → Priced cost share
-priced {b} {cost} {c} r m s =
-    rw (s, m) (cheap-is-priced (active-is-fit (r .sound) (b .node) (r .active) .books .held) (r .cheap))
-
-placed : (cost : Abs) (row : Row) (n : ℕ) → firstOf (roomChecks Waits cost row (some n)) ≡ Accepted → n < queueRoom
-unfolding roomChecks
-placed cost row n = go (leb queueRoom n) refl
+module _ {b : Bio} {cost : Abs} {c : Controller} (ready : Ready b cost c) {n share : ℕ} (m : n ≡ b .node) (s : share ≡ shareAt c n)
   where
-    go : (t : Bool) → leb queueRoom n ≡ t → cond t (Refused QueueFull) Accepted ≡ Accepted → n < queueRoom
-    go true e i = let z : _≡_ {A = ℕ} 0 1 = cc in absurd (omega arith)
-    go false e i = leb-false queueRoom n e
+    in-tree : n < nodesMost
+    in-tree = rw m (active-node (ready .sound .tree) (c .active) (ready .sound .active) (b .node) (ready .active))
 
-module _ (b : Bio) (cost : Abs) (c : Controller) {n share waiting : ℕ} {forced : Bool} {answer : Answer} {verdict : Verdict}
-    (ready : Ready b cost c) (m : n ≡ b .node) (s : share ≡ shareAt c n) (w : waiting ≡ getD (c .queues) n (some 0) .len) (f : forced ≡ isForced b)
-    (a : answer ≡ answerWith forced cost share (rowAt c n) waiting) (v : verdict ≡ firstOf (roomChecks answer cost (rowAt c n) (some waiting)))
-  where
-    counted : waiting ≡ queueAt c (b .node) .len
-    counted = w ∙ ap (λ (q : Queue). q .len) (queue-read (ready .sound) n (at-node m (ready-node ready))) ∙ ap (λ (k : ℕ). queueAt c k .len) m
+    queue-read : getD (c .queues) n (some 0) ≡ queueAt c n
+    queue-read = same-place (c .queues) n (some 0) emptyQueue (omega (arith, ready .sound .queues-all, in-tree))
 
-    answer-is : answer ≡ answerIn c b
-    unfolding answerIn
-    answer-is =
-        a ∙ rw (f, s, counted, m, ready .same)
-        (sym (answer-by-count (isForced b) (costIn c b) (shareAt c (b .node)) (rowAt c (b .node)) (queueAt c (b .node))))
+    pub can-judge : CanJudge b cost share (rowAt c n) (getD (c .queues) n (some 0))
+    can-judge =
+        rw (queue-read, s, m)
+        (record { fit = active-is-fit (ready .sound) (b .node) (ready .active); range = ready .range; cheap = ready .cheap })
 
-    verdict-is : verdict ≡ firstOf (roomChecks (answerIn c b) (costIn c b) (rowAt c (b .node)) (queueAt c (b .node)))
-    unfolding roomChecks
-    verdict-is = v ∙ rw (answer-is, counted, m, ready .same)
+    module _ {j : Judged} (e : j ≡ onLeaf b cost share (rowAt c n) (getD (c .queues) n (some 0))) where
+      judged-is : j ≡ onLeaf b (costIn c b) (shareAt c (b .node)) (rowAt c (b .node)) (queueAt c (b .node))
+      judged-is = e ∙ rw (queue-read, s, m, ready .same)
 
-    pub can-settle : verdict ≡ Accepted → CanSettle answer b cost c
-    can-settle e = record {
-      ready = ready;
-      fitting = λ i. rw (← m, ← s) (issued-fits forced cost share (rowAt c n) waiting (sym a ∙ i));
-      place = λ i. rw (← counted) (placed cost (rowAt c n) waiting (ap (λ (x : Answer). firstOf (roomChecks x cost (rowAt c n) (some waiting))) (sym i) ∙ sym v ∙ e));
-    }
+      pub can-rebase : SoundTree (c .tree) × Within (c .tree) (c .active)
+          × ((k : ℕ) → rowAt (put n j c) k .budget .0 * shareAt c k ≤ worthMost)
+      can-rebase =
+          let sound : Sound c = ready .sound in
+          let less : j .row .budget .0 ≤ rowAt c n .budget .0 = rw e (no-budget-gained b cost share (rowAt c n) (getD (c .queues) n (some 0))) in (
+            sound .tree,
+            sound .active,
+            put-each (λ k r q. r .budget .0 * shareAt c k ≤ worthMost) n (j .row) (j .queue) c (sound .rows-all) (sound .queues-all) in-tree
+                (le-trans (mul-le-mul less (omega arith)) (sound .worth-most n)) (λ k i. sound .worth-most k),
+          )
 
-    pub accepts : {state : Controller} → verdict ≡ Accepted → state ≡ settled answer b c
-        → _≡_ {A = Submitted} (record { answer = answer; state = state }) (judged b c)
-    unfolding judged judgedBy
-    accepts e i = rw (i, answer-is) (ap (λ (x : Verdict). judgedBy x b c) (sym e ∙ verdict-is))
+module _ (c : Controller) (n : ℕ) (j : Judged) {x y : Bool} (p : x ≡ endsDonation (j .answer)) (q : y ≡ has (c .donors) n) where
+  pub ends : {r : Controller} → (x && y) ≡ true → r ≡ rebased (c .active) (put n j c)
+      → _≡_ {A = Submitted} (record { answer = j .answer; state = r }) (landed n j c)
+  ends t i = rw (← q, ← p, t, i)
 
-    pub refuses : (x : Refusal) → verdict ≡ Refused x → _≡_ {A = Submitted} (record { answer = Declined x; state = c }) (judged b c)
-    unfolding judged judgedBy
-    refuses x e = ap (λ (y : Verdict). judgedBy y b c) (sym e ∙ verdict-is)
+  pub goes-on : (x && y) ≡ false → _≡_ {A = Submitted} (record { answer = j .answer; state = put n j c }) (landed n j c)
+  goes-on t = rw (← q, ← p, t)
 
 -- ---- what the code finds at its own copy of the bio's node
 pub found : (b : Bio) (c : Controller) {n : ℕ} {k x : Costing} → n ≡ b .node → k ≡ costing (c .model) (rowAt c n) b → k ≡ x
@@ -239,13 +252,21 @@ uncosted model row b x = go (firstOf (costChecks model row b))
     go Accepted e = let z : _≡_ {A = ℕ} 0 1 = cc in absurd (omega arith)
     go (Refused y) e = cc
 
+-- what is judged in a state, by the verdict there
+abbrev judgedBy : Verdict → Bio → Controller → Submitted
+judgedBy v b c =
+    landed (b .node) (onLeafBy v (answerIn c b) b (costIn c b) (shareAt c (b .node)) (rowAt c (b .node)) (queueAt c (b .node))) c
+
+abbrev judged : Bio → Controller → Submitted
+judged b c = landed (b .node) (onLeaf b (costIn c b) (shareAt c (b .node)) (rowAt c (b .node)) (queueAt c (b .node))) c
+
 alike : (b : Bio) (c : Controller) (v : Verdict) → entered (b .node) c ≡ c → judgedBy v b c ≡ submittedBy v b c
-unfolding judgedBy submittedBy submission
+unfolding onLeafBy submittedBy submission settled applied endsDonation
 alike b c Accepted t = rw t
-alike b c (Refused x) t = refl
+alike b c (Refused x) t = rw (set-getD (c .rows) (b .node) emptyRow, set-getD (c .queues) (b .node) emptyQueue)
 
 woken-alike : (b : Bio) (c : Controller) → judgedBy Accepted b (entered (b .node) c) ≡ submittedBy Accepted b c
-unfolding judgedBy submittedBy submission
+unfolding onLeafBy submittedBy submission settled applied
 woken-alike b c = refl
 
 module _ {c : Controller} (s : Sound c) (b : Bio) where
@@ -287,14 +308,14 @@ module _ {c : Controller} (s : Sound c) (b : Bio) where
       first = rw (leaf, range, le-ltb costMost (costIn c b .0) small)
 
       in-place : has (c .active) (b .node) ≡ true → judged b (entered (b .node) c) ≡ submitted b c
-      unfolding judged submitted wouldBe
+      unfolding onLeaf answerIn submitted wouldBe
       in-place on =
           let there : entered (b .node) c ≡ c = stays (b .node) c on in
           ap (judged b) there ∙ alike b c (firstOf (roomChecks (answerIn c b) (costIn c b) (rowAt c (b .node)) (queueAt c (b .node)))) there
           ∙ ap (λ (v : Verdict). submittedBy v b c) (rw (first, there))
 
       woken : has (c .active) (b .node) ≡ false → judged b (entered (b .node) c) ≡ submitted b c
-      unfolding judged submitted
+      unfolding onLeaf answerIn submitted
       woken off =
           let d : Controller = entered (b .node) c in
           let w : Reweighed c d = entering-reweighs s (b .node) in
@@ -306,8 +327,10 @@ module _ {c : Controller} (s : Sound c) (b : Bio) where
           ∙ ap (λ (v : Verdict). submittedBy v b c)
           (sym (first ∙ idle-has-room (wouldBe c b) (costIn c b) (rowAt c (b .node)) (queueAt c (b .node)) (here .no-debt) (here .no-waiter) small))
 
-      pub submits : {n : ℕ} {d : Controller} {r : Submitted} → n ≡ b .node → d ≡ entered n c → r ≡ judged b d → r ≡ submitted b c
-      submits {n} {d} m i j = j ∙ rw (i, m) (go (has (c .active) (b .node)) refl)
+      pub submits : {n share : ℕ} {d : Controller} {j : Judged} {r : Submitted} → n ≡ b .node → d ≡ entered n c → share ≡ shareAt d n
+          → j ≡ onLeaf b cost share (rowAt d n) (getD (d .queues) n (some 0)) → r ≡ landed n j d → r ≡ submitted b c
+      submits {n} {share} {d} {j} m i h e l =
+          l ∙ rw (judged-is (ready-there m i) m h e, i, m) (go (has (c .active) (b .node)) refl)
         where
           go : (t : Bool) → has (c .active) (b .node) ≡ t → judged b (entered (b .node) c) ≡ submitted b c
           go true on = in-place on

@@ -2,18 +2,17 @@
 // leaf and to a donation. What happens inside one row and one queue is the crate leaf's. No node but the bio's is touched
 // unless shares change.
 ghost use mathlib.Core.Path.{_≡_};
-ghost use mathlib.Core.Bool.{true};
 ghost use Prim.Native.Nat.{_≤_};
 ghost use Rattle.rules.specs.Numbers.{costMost, debtMost};
 ghost use Rattle.rules.specs.Words.{has as member};
-ghost use Rattle.rules.specs.Tree.{isLeaf};
-ghost use Rattle.rules.specs.Budget.{entered as enteredOf, endsDonation, applied as appliedOf, settled as settledOf};
+ghost use Rattle.rules.specs.Budget.{endsDonation};
 ghost use Rattle.rules.specs.Refusals.{firstOf, roomChecks};
 ghost use Rattle.rules.specs.Entries.{submitted};
 ghost use Rattle.rules.specs.Invariant.{Sound};
 ghost use Rattle.leaf.specs.Alone.{some};
-ghost use Rattle.submit.specs.Judged.{Ready, CanSettle, judged as judgedOf};
+ghost use Rattle.submit.specs.OnLeaf.{CanJudge, onLeaf};
 use rules::budget::Controller;
+use rules::budget::Queue;
 use rules::budget::Row;
 use rules::budget::Submitted;
 use rules::cost::Bio;
@@ -23,7 +22,7 @@ use rules::refusals::Refusal;
 use rules::refusals::Verdict;
 use rules::units::Abs;
 
-// "7: 8 bios of the leaf wait", "8: the leaf's debt would pass 2^40".
+// Refusals 7 and 8: "its leaf has 8 waiting", "debt + cost > 2^40".
 const ROOM: u8 = Controller::QUEUE_ROOM as u8;
 
 const DEBT_MOST: u64 = 1099511627776;
@@ -88,97 +87,77 @@ fn ends_donation(answer: Answer) -> bool
     }
 }
 
-// "1. An inactive leaf becomes active .."
-fn entered(c: Controller, node: usize) -> Controller
-    requires { ⌜ Sound c × (isLeaf (c .tree) node ≡ true) ⌝ }
-    ensures { λ r. ⌜ r ≡ enteredOf node c ⌝ }
-{
-    let active = c.active;
-    if sets::has(active, node) {
-        c
-    } else {
-        controller::shares::rebased(c, sets::insert(active, node))
-    }
+// What a bio comes to on its leaf: the answer, and the leaf's row and queue after it.
+struct Judged {
+    answer: Answer,
+    row: Row,
+    queue: Queue,
 }
 
-// The bio's leaf with the answer applied.
-fn applied(mut c: Controller, answer: Answer, bio: Bio, cost: Abs) -> Controller
-    requires { ⌜ CanSettle answer bio cost c ⌝ }
-    ensures { λ r. ⌜ r ≡ appliedOf answer bio c ⌝ }
+// Refusals 7 and 8, then the answer, on a leaf that is active. A refused bio leaves its leaf as it was.
+fn on_leaf(bio: Bio, cost: Abs, share: u64, row: Row, queue: Queue) -> Judged
+    requires { ⌜ CanJudge bio cost share row queue ⌝ }
+    ensures { λ r. ⌜ r ≡ onLeaf bio cost share row queue ⌝ }
 {
-    let node = node_of(bio);
-    let row = c.rows[node];
-    let queue = c.queues[node];
-    let share = wide(c.shares[node]);
-    let taken = leaf::submission::row_after(answer, cost, share, row);
-    let noted = leaf::row::noted(cost::end_of(bio), taken);
-    let queued = leaf::submission::queue_after(answer, bio.id, cost, queue);
-    c.rows[node] = noted;
-    c.queues[node] = queued;
-    c
-}
-
-// "4. If the bio waited or went on debt and the leaf is a donor, the donation ends .."
-fn settled(c: Controller, answer: Answer, bio: Bio, cost: Abs) -> Controller
-    requires { ⌜ CanSettle answer bio cost c ⌝ }
-    ensures { λ r. ⌜ r ≡ settledOf answer bio c ⌝ }
-{
-    let node = node_of(bio);
-    let active = c.active;
-    let donors = c.donors;
-    let after = applied(c, answer, bio, cost);
-    if ends_donation(answer) & sets::has(donors, node) {
-        controller::shares::rebased(after, active)
-    } else {
-        after
-    }
-}
-
-// Refusals 7 and 8, then the answer, in a state in which the bio's leaf is active.
-fn judged(c: Controller, bio: Bio, cost: Abs) -> Submitted
-    requires { ⌜ Ready bio cost c ⌝ }
-    ensures { λ r. ⌜ r ≡ judgedOf bio c ⌝ }
-{
-    let node = node_of(bio);
-    let row = c.rows[node];
-    let queue = c.queues[node];
     let waiting = queue.len;
-    let share = wide(c.shares[node]);
     let answer = leaf::submission::answer_to(cost::is_forced(bio), cost, share, row, waiting);
     let verdict = room(answer, cost, row, waiting);
     match verdict {
         Verdict::Accepted => {
-            let state = settled(c, answer, bio, cost);
-            Submitted { answer, state }
+            let taken = leaf::submission::row_after(answer, cost, share, row);
+            let noted = leaf::row::noted(cost::end_of(bio), taken);
+            let queued = leaf::submission::queue_after(answer, bio.id, cost, queue);
+            Judged {
+                answer,
+                row: noted,
+                queue: queued,
+            }
         }
-        Verdict::Refused(x) => Submitted {
+        Verdict::Refused(x) => Judged {
             answer: Answer::Refused(x),
-            state: c,
+            row,
+            queue,
         },
     }
 }
 
-// Submit a bio.
-pub fn submit(c: Controller, bio: Bio) -> Submitted
+// Submit a bio. The state stands in this one function, which changes it in place and hands it on once: to copy it takes
+// longer than all that is worked out here.
+pub fn submit(mut c: Controller, bio: Bio) -> Submitted
     requires { ⌜ Sound c ⌝ }
     ensures { λ r. ⌜ r ≡ submitted bio c ⌝ }
 {
     let node = node_of(bio);
+    let mut answer = Answer::Refused(Refusal::NoLeaf);
     if holds(c.leaves, node) {
         let row = c.rows[node];
         let model = c.model;
         let costing = cost::cost_of(model, row, bio);
         match costing {
-            Costing::Costs(cost) => judged(entered(c, node), bio, cost),
-            Costing::Refused(x) => Submitted {
-                answer: Answer::Refused(x),
-                state: c,
-            },
-        }
-    } else {
-        Submitted {
-            answer: Answer::Refused(Refusal::NoLeaf),
-            state: c,
+            Costing::Costs(cost) => {
+                // "1. An inactive leaf becomes active .."
+                let active = c.active;
+                if !sets::has(active, node) {
+                    c = controller::shares::rebased(c, sets::insert(active, node));
+                }
+                let row = c.rows[node];
+                let queue = c.queues[node];
+                let share = wide(c.shares[node]);
+                let judged = on_leaf(bio, cost, share, row, queue);
+                answer = judged.answer;
+                let next = judged.row;
+                let queued = judged.queue;
+                c.rows[node] = next;
+                c.queues[node] = queued;
+                // "4. If the bio waited or went on debt and the leaf is a donor, .."
+                if ends_donation(answer) & sets::has(c.donors, node) {
+                    c = controller::shares::rebased(c, c.active);
+                }
+            }
+            Costing::Refused(x) => {
+                answer = Answer::Refused(x);
+            }
         }
     }
+    Submitted { answer, state: c }
 }

@@ -1,4 +1,4 @@
--- `keeps` meets its contract: the test is that the leaf is active, and the rest is said of its row with the debt forgiven.
+-- `keeps` meets its contract: what is said of a row is said of the row with its debt forgiven.
 -- Assumes nothing.
 use mathlib.Core.Path.{ap, _∙_}
 use borrow.Author.Needs.{needs}
@@ -15,11 +15,8 @@ stays-requires c κs = search needs
 
 returns : tie.Need-returns
 returns c =
-    let a = c .before .before .before .args in
-    rw (c .before .before .if1 .taken) (c .stays .ensures ∙ ap (λ (r : Row). staysWith r (a .waiting)) (c .before .forgiven .ensures))
-
-returns-2 : tie.Need-returns-2
-returns-2 c = search needs
+    let a = c .before .before .args in
+    c .stays .ensures ∙ ap (λ (r : Row). staysWith r (a .waiting)) (c .before .forgiven .ensures)
 
 pub keeps-spec : {M : Type 1} → statement M
-keeps-spec = tie.close (tie.spec forgiven-requires stays-requires returns returns-2)
+keeps-spec = tie.close (tie.spec forgiven-requires stays-requires returns)

@@ -7,43 +7,43 @@ use native.Mathlib.Omega.{arith}
 use borrow.Author.Needs.{needs}
 use lib.ListN.{length, getD, replicate}
 use Rattle.rules.specs.Words.{table}
-use Rattle.rules.specs.Budget.{emptyRow}
+use Rattle.rules.specs.Units.{abs}
 use Rattle.rules.specs.Plan.{targetOf}
 use Rattle.rules.specs.Laws.Sweeps.{swept, place-put, places-done}
 use Rattle.rules.specs.declared.units.Virt.{Virt}
-use Rattle.rules.specs.declared.budget.Row.{Row}
+use Rattle.rules.specs.declared.units.Abs.{Abs}
 use Rattle.plan.proofs.Turns.{target-fits}
 use Rattle.plan.proofs.targets_in.Statement.{statement}
 use Rattle.plan.proofs.targets_in.Tie as tie
 
-abbrev targetAt : Virt → List Row → ℕ → ℕ
-targetAt since rows n = targetOf since (getD rows n emptyRow .usage)
+abbrev targetAt : Virt → List Abs → ℕ → ℕ
+targetAt since usages n = targetOf since (getD usages n (abs 0))
 
 abbrev Inv-loop : tie.InvT-loop
-Inv-loop since rows targets₀ n₀ targets n =
-    (targets ≡ swept (table (targetAt since rows)) targets₀ n) × (length targets₀ ≡ 64) × (n ≤ 64)
+Inv-loop since usages targets₀ n₀ targets n =
+    (targets ≡ swept (table (targetAt since usages)) targets₀ n) × (length targets₀ ≡ 64) × (n ≤ 64)
 
 abbrev μ-loop : tie.MeasureT-loop
-μ-loop since rows targets₀ n₀ targets n = 64 - n
+μ-loop since usages targets₀ n₀ targets n = 64 - n
 
 loop-holds : tie.Need-loop-holds Inv-loop μ-loop
 loop-holds c = (refl, refl, omega arith)
 
-mul-row : tie.Need-mul-row Inv-loop μ-loop
-mul-row c = search needs
+mul-usage : tie.Need-mul-usage Inv-loop μ-loop
+mul-usage c = search needs
 
-array-copy-out-row : tie.Need-array-copy-out-row Inv-loop μ-loop
-array-copy-out-row c = search needs
+array-copy-out-usage : tie.Need-array-copy-out-usage Inv-loop μ-loop
+array-copy-out-usage c = search needs
 
 target-of-requires : tie.Need-target-of-requires Inv-loop μ-loop
 target-of-requires c κs = search needs
 
 cast-targets : tie.Need-cast-targets Inv-loop μ-loop
 cast-targets c =
-    let at = c .before .before .before .before in
+    let at = c .before .before .before in
     let start = at .before in
     let fits : c .target-of .result < 2 ^ 32 =
-    rw (c .target-of .ensures) (target-fits (start .args .since) (getD (start .args .t1) (at .loop .n) emptyRow .usage) (start .pre .0)) in
+    rw (c .target-of .ensures) (target-fits (start .args .since) (getD (start .args .t1) (at .loop .n) (abs 0)) (start .pre .0)) in
     search needs
 
 mul-targets : tie.Need-mul-targets Inv-loop μ-loop
@@ -60,7 +60,7 @@ loop-less c = search needs
 
 loop-again : tie.Need-loop-again Inv-loop μ-loop
 loop-again c =
-    let at = c .before .before .before .before in
+    let at = c .before .before .before in
     let a = at .before .args in
     let node : at .loop .n < 64 = search needs in (
       place-put (targetAt (a .since) (a .t1)) (replicate 64 0) (at .loop .targets) (at .loop .n) 0 refl (at .loop .inv .0) node (c .target-of .result)
@@ -82,8 +82,8 @@ targets-in-spec =
     Inv-loop
     μ-loop
     loop-holds
-    mul-row
-    array-copy-out-row
+    mul-usage
+    array-copy-out-usage
     target-of-requires
     cast-targets
     mul-targets

@@ -9,28 +9,27 @@ use borrow.Author.Needs.{needs}
 use lib.ListN.{getD}
 use Rattle.rules.specs.Words.{sumTo}
 use Rattle.rules.specs.Units.{abs}
-use Rattle.rules.specs.Budget.{emptyRow}
 use Rattle.rules.specs.Laws.Sums.{sum-part}
-use Rattle.rules.specs.declared.budget.Row.{Row}
+use Rattle.rules.specs.declared.units.Abs.{Abs}
 use Rattle.plan.proofs.usage_all.Statement.{statement}
 use Rattle.plan.proofs.usage_all.Tie as tie
 
-abbrev usageAt : List Row → ℕ → ℕ
-usageAt rows n = getD rows n emptyRow .usage .0
+abbrev usageAt : List Abs → ℕ → ℕ
+usageAt usages n = getD usages n (abs 0) .0
 
-module _ (rows : List Row) (n sum : ℕ) (e : sum ≡ sumTo (usageAt rows) n) where
-  one-more : sum + usageAt rows (n + 1) ≡ sumTo (usageAt rows) (n + 1)
+module _ (usages : List Abs) (n sum : ℕ) (e : sum ≡ sumTo (usageAt usages) n) where
+  one-more : sum + usageAt usages (n + 1) ≡ sumTo (usageAt usages) (n + 1)
   unfolding sumTo
   one-more = rw e (simp add-one)
 
-  still-small : n < 63 → sumTo (usageAt rows) 63 ≤ 2 ^ 38 → sum + usageAt rows (n + 1) ≤ 2 ^ 38
-  still-small l small = omega (arith, one-more, sum-part (usageAt rows) (n + 1) 63 (omega arith))
+  still-small : n < 63 → sumTo (usageAt usages) 63 ≤ 2 ^ 38 → sum + usageAt usages (n + 1) ≤ 2 ^ 38
+  still-small l small = omega (arith, one-more, sum-part (usageAt usages) (n + 1) 63 (omega arith))
 
 abbrev Inv-loop : tie.InvT-loop
-Inv-loop rows sum₀ n₀ sum n = (sum ≡ sumTo (usageAt rows) n) × (n ≤ 63)
+Inv-loop usages sum₀ n₀ sum n = (sum ≡ sumTo (usageAt usages) n) × (n ≤ 63)
 
 abbrev μ-loop : tie.MeasureT-loop
-μ-loop rows sum₀ n₀ sum n = 63 - n
+μ-loop usages sum₀ n₀ sum n = 63 - n
 
 loop-holds : tie.Need-loop-holds Inv-loop μ-loop
 unfolding sumTo
@@ -39,15 +38,15 @@ loop-holds c = (refl, omega arith)
 add-n : tie.Need-add-n Inv-loop μ-loop
 add-n c = search needs
 
-mul-row : tie.Need-mul-row Inv-loop μ-loop
-mul-row c = search needs
+mul-usage : tie.Need-mul-usage Inv-loop μ-loop
+mul-usage c = search needs
 
-array-copy-out-row : tie.Need-array-copy-out-row Inv-loop μ-loop
-array-copy-out-row c = search needs
+array-copy-out-usage : tie.Need-array-copy-out-usage Inv-loop μ-loop
+array-copy-out-usage c = search needs
 
 add-sum : tie.Need-add-sum Inv-loop μ-loop
 add-sum c =
-    let at = c .before .before .before .before in
+    let at = c .before .before .before in
     let small = still-small (at .before .args .t1) (at .loop .n) (at .loop .sum) (at .loop .inv .0) (search needs) (at .before .pre) in
     record { fits = omega (arith, small) }
 
@@ -56,7 +55,7 @@ loop-less c = search needs
 
 loop-again : tie.Need-loop-again Inv-loop μ-loop
 loop-again c =
-    let at = c .before .before .before .before in
+    let at = c .before .before .before in
     (one-more (at .before .args .t1) (at .loop .n) (at .loop .sum) (at .loop .inv .0), omega arith)
 
 returns : tie.Need-returns Inv-loop μ-loop
@@ -72,8 +71,8 @@ usage-all-spec =
     μ-loop
     loop-holds
     add-n
-    mul-row
-    array-copy-out-row
+    mul-usage
+    array-copy-out-usage
     add-sum
     loop-less
     loop-again
