@@ -1,0 +1,121 @@
+-- A call's answer, its lines and its state are what the rules say of that call.
+-- Assumes nothing.
+use mathlib.Core.Path.{_≡_, refl, sym, ap, _∙_}
+use mathlib.Core.List.{List}
+use Prim.Native.Nat.{ℕ, _*_, _≤_}
+use native.Mathlib.Omega.{arith}
+use lib.ListN.{length, take}
+use Rattle.rules.specs.Numbers.{lineRoom}
+use Rattle.rules.specs.Refusals.{firstOf, tickChecks}
+use Rattle.rules.specs.Tick.{growth, releases}
+use Rattle.rules.specs.Replay.{refusalLine, answerLine, releaseLines, tickLines, planLines, verdictLines, allRoom}
+use Rattle.rules.specs.Chunks.{callOf, calling}
+use Rattle.rules.specs.Entries.{submitted, ticked, tickedBy, lentOf, planned, vrated}
+use Rattle.rules.specs.Invariant.{Sound}
+use Rattle.rules.specs.Laws.Buffers.{Written}
+use Rattle.rules.specs.Laws.Lines.{shareLinesOf, share-lines}
+use Rattle.rules.specs.Laws.Ticks.{tick-releases-fit}
+use Rattle.rules.specs.declared.cost.Bio.{Bio}
+use Rattle.rules.specs.declared.budget.Controller.{Controller}
+use Rattle.rules.specs.declared.budget.Submitted.{Submitted}
+use Rattle.rules.specs.declared.budget.Ticked.{Ticked}
+use Rattle.rules.specs.declared.budget.Outcome.{Outcome}
+use Rattle.rules.specs.declared.refusals.Refusal.{Refusal}
+use Rattle.rules.specs.declared.refusals.Verdict.{Verdict}
+use Rattle.rules.specs.declared.refusals.Verdict.the-variants.{Accepted, Refused}
+use Rattle.rules.specs.declared.refusals.Count.{Count}
+use Rattle.rules.specs.declared.refusals.Count.the-variants.{Released, Refused as Unticked}
+use Rattle.rules.specs.declared.trace.Record.{Record}
+use Rattle.rules.specs.declared.trace.Record.the-variants.{Bio as BioOf, Tick, Vrate}
+use Rattle.rules.specs.declared.trace.Read.{Read}
+use Rattle.rules.specs.declared.trace.Read.the-variants.{Found}
+use Rattle.rules.specs.declared.replay.Call.{Call}
+use Rattle.rules.specs.declared.replay.Call.the-variants.{Bio as CallBio, Tick as CallTick, Plan as CallPlan, Vrate as CallVrate}
+use Rattle.steps.specs.Went.{CanPrint, planLinesOf}
+
+-- ---- an accepted tick releases no more than the lent buffer has places
+released-fit : {c : Controller} → Sound c → (time : ℕ) (lent : List ℕ) {done : Ticked} {n : ℕ} → done ≡ ticked time lent c
+    → done .answer ≡ Released n → n ≤ length lent
+unfolding ticked tickedBy
+released-fit {c} sound time lent {done} {n} e f = go (firstOf (tickChecks time (length lent) c)) refl (sym (ap (λ (t : Ticked). t .answer) e) ∙ f)
+  where
+    go : (v : Verdict) → firstOf (tickChecks time (length lent) c) ≡ v → tickedBy v time c .answer ≡ Released n → n ≤ length lent
+    go Accepted p q =
+        let same : length (releases (growth (c .clock) time) c) ≡ n = cc in
+        omega (arith, tick-releases-fit sound time (length lent) p)
+    go (Refused x) p q = let z : _≡_ {A = ℕ} 0 1 = cc in absurd (omega arith)
+
+pub can-print : {c : Controller} → Sound c → (time : ℕ) {done : Ticked} {places : ℕ} → done ≡ ticked time allRoom c → places ≡ 504
+    → CanPrint (done .answer) places
+can-print {c} sound time {done} {places} e l = go (done .answer) refl
+  where
+    go : (a : Count) → done .answer ≡ a → CanPrint a places
+    go (Released n) f = let fit : n ≤ 504 = released-fit sound time allRoom e f in (omega arith, omega arith)
+    go (Unticked x) f = tt
+
+-- ---- what is read asks for a call
+module _ {read : Read} {r : Record} {next : ℕ} (e : read ≡ Found r next) where
+  pub asks-bio : (b : Bio) → r ≡ BioOf b → CallBio b ≡ callOf read
+  unfolding callOf
+  asks-bio b f = rw (e, f)
+
+  pub asks-tick : (time : ℕ) → r ≡ Tick time → CallTick time ≡ callOf read
+  unfolding callOf
+  asks-tick time f = rw (e, f)
+
+  pub asks-vrate : (v : ℕ) → r ≡ Vrate v → CallVrate v ≡ callOf read
+  unfolding callOf
+  asks-vrate v f = rw (e, f)
+
+-- ---- the lines of each answer
+pub room-for : {answer : Count} {n places : ℕ} → answer ≡ Released n → CanPrint answer places → (n ≤ places) × (13 * n ≤ lineRoom)
+room-for e h = rw e at h
+
+module _ {r : ℕ} (o₀ o : List ℕ) where
+  pub released-put : {answer : Count} {n : ℕ} (lent : List ℕ) → answer ≡ Released n → Written (releaseLines (take n lent)) r o₀ o
+      → Written (tickLines answer lent) r o₀ o
+  unfolding tickLines
+  released-put lent e w = rw e w
+
+  pub unticked-put : {answer : Count} {x : Refusal} (lent : List ℕ) → answer ≡ Unticked x → Written (refusalLine x) r o₀ o
+      → Written (tickLines answer lent) r o₀ o
+  unfolding tickLines
+  unticked-put lent e w = rw e w
+
+  pub shares-put : {answer : Verdict} (active : ℕ) (shares : List ℕ) → answer ≡ Accepted → Written (shareLinesOf active shares) r o₀ o
+      → Written (planLinesOf answer active shares) r o₀ o
+  shares-put active shares e w = rw e w
+
+  pub unplanned-put : {answer : Verdict} {x : Refusal} (active : ℕ) (shares : List ℕ) → answer ≡ Refused x → Written (refusalLine x) r o₀ o
+      → Written (planLinesOf answer active shares) r o₀ o
+  unplanned-put active shares e w = rw e w
+
+-- ---- what a call printed and left
+abbrev pub Answered : Call → Controller → ℕ → List ℕ → List ℕ → Controller → Type 0
+Answered call c r o₀ o d = Written (calling call c .bytes) r o₀ o × (d ≡ calling call c .state)
+
+plan-lines : (answer : Verdict) (c : Controller) → planLinesOf answer (c .active) (c .shares) ≡ planLines answer c
+unfolding planLines
+plan-lines Accepted c = sym (share-lines c)
+plan-lines (Refused x) c = refl
+
+module _ (c : Controller) {r : ℕ} (o₀ o : List ℕ) where
+  pub bio-answered : (b : Bio) {done : Submitted} → done ≡ submitted b c → Written (answerLine (done .answer) (b .id)) r o₀ o
+      → Answered (CallBio b) c r o₀ o (done .state)
+  unfolding calling
+  bio-answered b e w = rw e (rw e at w, refl)
+
+  pub tick-answered : (time : ℕ) {done : Ticked} {lent : List ℕ} → done ≡ ticked time allRoom c → lent ≡ lentOf time allRoom c
+      → Written (tickLines (done .answer) lent) r o₀ o → Answered (CallTick time) c r o₀ o (done .state)
+  unfolding calling
+  tick-answered time e f w = rw e (rw (e, f) at w, refl)
+
+  pub plan-answered : {done : Outcome} → done ≡ planned c → Written (planLinesOf (done .answer) (done .state .active) (done .state .shares)) r o₀ o
+      → Answered CallPlan c r o₀ o (done .state)
+  unfolding calling
+  plan-answered {done} e w = rw e (rw e at (rw plan-lines at w), refl)
+
+  pub vrate-answered : (v : ℕ) {done : Outcome} → done ≡ vrated v c → Written (verdictLines (done .answer)) r o₀ o
+      → Answered (CallVrate v) c r o₀ o (done .state)
+  unfolding calling
+  vrate-answered v e w = rw e (rw e at w, refl)

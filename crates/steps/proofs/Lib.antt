@@ -1,0 +1,4 @@
+pub mod Answered
+pub mod Feeding
+pub mod Records
+pub mod Running

@@ -1,0 +1,190 @@
+-- `steps::chunk::feed` meets its contract: each turn of the loop is a turn of the chunk's part.
+-- Assumes nothing.
+use mathlib.Core.Path.{_≡_, refl, sym, _∙_}
+use mathlib.Core.Bool.{Bool, true, false}
+use lib.ListN.{length}
+use Prim.Native.Nat.{_-_}
+use native.Mathlib.Omega.{arith}
+use borrow.Author.Needs.{needs}
+use borrow.Author.Tests.{not-true, not-false}
+use denote.Ref.{now}
+use Rattle.rules.specs.Chunks.{halts}
+use Rattle.rules.specs.Laws.Buffers.{stands-left, stands-kept}
+use Rattle.steps.proofs.Feeding.{Feeding, left, begun, asks-little, fits, turn, falls, run-fits, run-turn, run-falls, done, printed, inside}
+use Rattle.steps.proofs.Records.{no-run}
+use Rattle.steps.proofs.chunk.feed.Statement.{statement}
+use Rattle.steps.proofs.chunk.feed.Tie as tie
+
+abbrev Inv-loop : tie.InvT-loop
+Inv-loop s₀ trace place last out₀ at₀ count₀ read₀ phase₀ s out at count read phase =
+    Feeding last trace place s₀ out₀ out at count read phase s
+
+abbrev μ-loop : tie.MeasureT-loop
+μ-loop s₀ trace place last out₀ at₀ count₀ read₀ phase₀ s out at count read phase = left trace at phase
+
+read-at-requires : tie.Need-read-at-requires Inv-loop μ-loop
+read-at-requires c κs = tt
+
+loop-holds : tie.Need-loop-holds Inv-loop μ-loop
+loop-holds c =
+    let start = c .before .before .before in
+    begun (start .args .last) (now (start .args .trace)) (start .args .place) (start .args .s) (now (start .args .out))
+    (c .read-at .result) (start .pre) (c .read-at .ensures)
+
+sub-halts : tie.Need-sub-halts Inv-loop μ-loop
+sub-halts c = stands-left (c .loop .inv .front)
+
+halts-requires : tie.Need-halts-requires Inv-loop μ-loop
+halts-requires c κs = tt
+
+-- the loop's test, as the rule says it
+abbrev Halts : tie.At-loop Inv-loop μ-loop → Bool
+Halts c = halts (c .before .before .before .before .args .last) (c .loop .read) (length (c .loop .out) - c .loop .count) (c .loop .s)
+
+told : (c : tie.After-halts Inv-loop μ-loop) → c .halts .result ≡ Halts (c .before)
+told c = c .halts .ensures (c .before .loop .s) (c .before .loop .inv .same)
+
+goes-at : (c : tie.Then1 Inv-loop μ-loop) → Halts (c .before .before) ≡ false
+goes-at c = sym (told (c .before)) ∙ not-true (c .before .halts .result) (c .if1 .taken)
+
+ends-at : (c : tie.Else1 Inv-loop μ-loop) → Halts (c .before .before) ≡ true
+ends-at c = sym (told (c .before)) ∙ not-false (c .before .halts .result) (c .if1 .left)
+
+runs-requires : tie.Need-runs-requires Inv-loop μ-loop
+runs-requires c κs = tt
+
+sub-run : tie.Need-sub-run Inv-loop μ-loop
+sub-run c = stands-left (c .before .before .before .before .loop .inv .front)
+
+part-run-start : tie.Need-part-run-start Inv-loop μ-loop
+part-run-start c = stands-left (c .before .before .before .before .loop .inv .front)
+
+part-run-end : tie.Need-part-run-end Inv-loop μ-loop
+part-run-end c = search needs
+
+run-requires : tie.Need-run-requires Inv-loop μ-loop
+run-requires c κs = c .before .before .before .before .before .loop .inv .plays .state
+
+add-count : tie.Need-add-count Inv-loop μ-loop
+add-count c =
+    let ran = c .before .before .before in
+    let called = ran .before .before .before in
+    let tested = called .before in
+    let head = tested .before .before in
+    let start = head .before .before .before .before in
+    let within = run-fits (head .loop .inv) (goes-at tested) (called .runs .ensures) (ran .before .before .if2 .taken) _ (ran .run .kept .1 .1 .1 .1 .0) (ran .run .ensures .0) in
+    omega (arith, within, start .good .1 .1 .1 .1 .0 .0)
+
+read-at-requires-2 : tie.Need-read-at-requires-2 Inv-loop μ-loop
+read-at-requires-2 c κs = tt
+
+loop-less : tie.Need-loop-less Inv-loop μ-loop
+loop-less c =
+    let ran = c .before .before .before .before .before in
+    let called = ran .before .before .before in
+    let tested = called .before in
+    run-falls (tested .before .before .loop .inv) (goes-at tested) (called .runs .ensures) (ran .before .before .if2 .taken) _ (ran .run .kept .1 .1 .1 .1 .0) (ran .run .ensures .0)
+    refl (ran .run .ensures .1)
+
+loop-again : tie.Need-loop-again Inv-loop μ-loop
+loop-again c =
+    let ran = c .before .before .before .before .before in
+    let called = ran .before .before .before in
+    let tested = called .before in
+    run-turn (tested .before .before .loop .inv) (goes-at tested) (called .runs .ensures) (ran .before .before .if2 .taken) _ (ran .run .kept .1 .1 .1 .1 .0) (ran .run .ensures .0)
+    (ran .run .ensures .1) (ran .run .ensures .2) (c .read-at2 .ensures)
+
+sub-went : tie.Need-sub-went Inv-loop μ-loop
+sub-went c = stands-left (c .before .before .before .before .loop .inv .front)
+
+part-went-start : tie.Need-part-went-start Inv-loop μ-loop
+part-went-start c = stands-left (c .before .before .before .before .loop .inv .front)
+
+part-went-end : tie.Need-part-went-end Inv-loop μ-loop
+part-went-end c = search needs
+
+went-requires : tie.Need-went-requires Inv-loop μ-loop
+went-requires c κs =
+    let called = c .before .before in
+    let tested = called .before in
+    let head = tested .before .before in
+    let inv = head .loop .inv in
+    (inv .plays, asks-little inv (goes-at tested), no-run (head .loop .s) _ (inv .same) (called .runs .ensures) (c .before .if2 .left))
+
+add-count-2 : tie.Need-add-count-2 Inv-loop μ-loop
+add-count-2 c =
+    let gone = c .before .before .before in
+    let tested = gone .before .before .before .before in
+    let head = tested .before .before in
+    let start = head .before .before .before .before in
+    let within = fits (head .loop .inv) (goes-at tested) (gone .went .kept .1 .1 .0) (gone .went .ensures) in
+    omega (arith, within, start .good .1 .1 .1 .1 .0 .0)
+
+next-place-requires : tie.Need-next-place-requires Inv-loop μ-loop
+next-place-requires c κs = tt
+
+read-at-requires-3 : tie.Need-read-at-requires-3 Inv-loop μ-loop
+read-at-requires-3 c κs = tt
+
+loop-less-2 : tie.Need-loop-less-2 Inv-loop μ-loop
+loop-less-2 c =
+    let gone = c .before .before .before .before .before .before in
+    let tested = gone .before .before .before .before in
+    falls (tested .before .before .loop .inv) (goes-at tested) (gone .went .kept .1 .1 .0) (gone .went .ensures) (c .before .before .next-place .ensures)
+
+loop-again-2 : tie.Need-loop-again-2 Inv-loop μ-loop
+loop-again-2 c =
+    let gone = c .before .before .before .before .before .before in
+    let tested = gone .before .before .before .before in
+    turn (tested .before .before .loop .inv) (goes-at tested) (gone .went .kept .1 .1 .0) (gone .went .ensures) (c .before .before .next-place .ensures)
+    (c .read-at3 .ensures)
+
+pause-of-requires : tie.Need-pause-of-requires Inv-loop μ-loop
+pause-of-requires c κs = tt
+
+same-length : tie.Need-same-length Inv-loop μ-loop
+same-length c = stands-kept (c .before .before .before .loop .inv .front)
+
+returns : tie.Need-returns Inv-loop μ-loop
+returns c =
+    let head = c .before .before .before in
+    let inv = head .loop .inv in
+    let over = ends-at (c .before) in (
+      done inv over (c .pause-of .result) (c .pause-of .ensures (head .loop .s) (inv .same)),
+      printed inv over,
+      inv .plays,
+      inv .front .within,
+      inside inv over,
+    )
+
+pub feed-spec : {M : Type 1} → statement M
+feed-spec =
+    tie.close
+    (tie.spec
+    Inv-loop
+    μ-loop
+    read-at-requires
+    loop-holds
+    sub-halts
+    halts-requires
+    runs-requires
+    sub-run
+    part-run-start
+    part-run-end
+    run-requires
+    add-count
+    read-at-requires-2
+    loop-less
+    loop-again
+    sub-went
+    part-went-start
+    part-went-end
+    went-requires
+    add-count-2
+    next-place-requires
+    read-at-requires-3
+    loop-less-2
+    loop-again-2
+    pause-of-requires
+    same-length
+    returns)

@@ -1,0 +1,163 @@
+// The records after start: a bio, a tick, a plan, a vrate. Each is one call on the controller and the lines of its
+// answer; a refused one changes nothing, and the replay goes on. The state goes from call to call in one function,
+// since each function that it is handed through copies it.
+ghost use mathlib.Core.Path.{_≡_};
+ghost use Prim.Native.Nat.{_*_, _≤_};
+ghost use lib.ListN.{length};
+ghost use Rattle.rules.specs.Numbers.{lineRoom};
+ghost use Rattle.rules.specs.Replay.{tickLines, nextPlace};
+ghost use Rattle.rules.specs.Chunks.{callOf, isCall, isRunning, runs as runsOf, runFrom};
+ghost use Rattle.rules.specs.Laws.Buffers.{Written};
+ghost use Rattle.rules.specs.Invariant.{Sound};
+ghost use Rattle.steps.specs.Went.{CanPrint, planLinesOf};
+use rules::budget::Controller;
+use rules::refusals::Count;
+use rules::refusals::Verdict;
+use rules::replay::Call;
+use rules::replay::Phase;
+use rules::replay::Ran;
+use rules::trace::Read;
+use rules::trace::Record;
+
+const WAITING_MOST: usize = 504;
+
+// 504 releases of 13 bytes: the most that one record prints.
+pub const LINE_ROOM: usize = 6552;
+
+// What is read asks this of the controller.
+pub fn call_of(read: Read) -> Call
+    ensures { λ r. ⌜ r ≡ callOf read ⌝ }
+{
+    match read {
+        Read::Found(r, _) => match r {
+            Record::Node(_, _) => Call::None,
+            Record::Model(_) => Call::None,
+            Record::Start(_) => Call::None,
+            Record::Bio(bio) => Call::Bio(bio),
+            Record::Tick(time) => Call::Tick(time),
+            Record::Plan => Call::Plan,
+            Record::Vrate(v) => Call::Vrate(v),
+        },
+        Read::End => Call::None,
+        Read::Refused(_) => Call::None,
+    }
+}
+
+fn is_call(call: Call) -> bool
+    ensures { λ b. ⌜ b ≡ isCall call ⌝ }
+{
+    match call {
+        Call::Bio(_) => true,
+        Call::Tick(_) => true,
+        Call::Plan => true,
+        Call::Vrate(_) => true,
+        Call::None => false,
+    }
+}
+
+fn is_running(phase: Phase) -> bool
+    ensures { λ b. ⌜ b ≡ isRunning phase ⌝ }
+{
+    match phase {
+        Phase::Setup => false,
+        Phase::Priced => false,
+        Phase::Running => true,
+        Phase::Stopped => false,
+    }
+}
+
+// A call in its phase.
+pub fn runs(phase: Phase, read: Read) -> bool
+    ensures { λ b. ⌜ b ≡ runsOf phase read ⌝ }
+{
+    is_running(phase) & is_call(call_of(read))
+}
+
+// Where the next record begins.
+pub fn next_place(read: Read, place: usize) -> usize
+    ensures { λ r. ⌜ r ≡ nextPlace read place ⌝ }
+{
+    match read {
+        Read::Found(_, next) => next,
+        Read::End => place,
+        Read::Refused(_) => place,
+    }
+}
+
+// What a tick prints: the ids that it released.
+fn put_ticked(answer: Count, ids: &[u32], out: &mut [u8]) -> usize
+    requires { ⌜ CanPrint answer (length (now ids)) × (lineRoom ≤ length (now out)) ⌝ }
+    ensures { λ r. ⌜ Written (tickLines answer (now (ids .entry))) r (now (out .entry)) (now (out .exit)) ⌝ }
+{
+    match answer {
+        Count::Released(released) => lines::put_releases(ids, released, out),
+        Count::Refused(x) => lines::put_refusal(x, out),
+    }
+}
+
+// What a plan prints: each active leaf with its share.
+fn put_planned(answer: Verdict, active: u64, shares: &[u32; 64], out: &mut [u8]) -> usize
+    requires { ⌜ 1008 ≤ length (now out) ⌝ }
+    ensures { λ r. ⌜ Written (planLinesOf answer active (now (shares .entry))) r (now (out .entry)) (now (out .exit)) ⌝ }
+{
+    match answer {
+        Verdict::Accepted => lines::put_shares(active, shares, out),
+        Verdict::Refused(x) => lines::put_refusal(x, out),
+    }
+}
+
+// At most so many calls in a row, from a place of the trace on, while the line buffer has room for any.
+pub fn run(mut c: Controller, trace: &[u8], place: usize, most: usize, out: &mut [u8]) -> Ran
+    requires { ⌜ Sound c ⌝ }
+    ensures { λ r. ⌜ Written (runFrom most (now (trace .entry)) (length (now (out .entry))) place c .bytes) (r .count) (now (out .entry)) (now (out .exit)) × (r .place ≡ runFrom most (now (trace .entry)) (length (now (out .entry))) place c .place) × (r .state ≡ runFrom most (now (trace .entry)) (length (now (out .entry))) place c .state) ⌝ }
+{
+    let mut at = place;
+    let mut count: usize = 0;
+    let mut left = most;
+    while (0 < left) & (LINE_ROOM <= out.len() - count) {
+        let here = at;
+        let read = trace::decoder::read_at(trace, here);
+        let call = call_of(read);
+        at = next_place(read, here);
+        left -= 1;
+        match call {
+            Call::None => {
+                return Ran {
+                    count,
+                    place: here,
+                    state: c,
+                };
+            }
+            Call::Bio(bio) => {
+                let done = submit::submit(c, bio);
+                let answer = done.answer;
+                count += lines::put_answer(answer, bio.id, &mut out[count..]);
+                c = done.state;
+            }
+            Call::Tick(time) => {
+                let mut ids = [0u32; WAITING_MOST];
+                let done = tick::tick(c, time, &mut ids);
+                let answer = done.answer;
+                count += put_ticked(answer, &ids, &mut out[count..]);
+                c = done.state;
+            }
+            Call::Plan => {
+                let done = plan::plan(c);
+                let answer = done.answer;
+                c = done.state;
+                count += put_planned(answer, c.active, &c.shares, &mut out[count..]);
+            }
+            Call::Vrate(v) => {
+                let done = controller::start::vrate(c, v);
+                let answer = done.answer;
+                count += lines::put_verdict(answer, &mut out[count..]);
+                c = done.state;
+            }
+        }
+    }
+    Ran {
+        count,
+        place: at,
+        state: c,
+    }
+}

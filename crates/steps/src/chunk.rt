@@ -1,0 +1,171 @@
+// A chunk of a trace: the records that are whole in it are replayed while the lent buffer has room for any record's
+// lines. What is cut at its end may be whole once more bytes come, so 17 is given at the trace's true end only.
+ghost use mathlib.Core.Path.{_≡_};
+ghost use mathlib.Core.List.{_++_};
+ghost use Prim.Native.Nat.{ℕ, _-_, _≤_};
+ghost use lib.ListN.{length, take, drop};
+ghost use Rattle.rules.specs.Replay.{beginning as beginningOf, replay};
+ghost use Rattle.rules.specs.Chunks.{isCut, isEnd, wantsBytes, halts as haltsOf, pauseOf, part, fed, whole as wholeOf, wholePart};
+ghost use Rattle.rules.specs.Laws.Buffers.{Written};
+ghost use Rattle.rules.specs.Invariant.{Playing};
+use crate::calls::LINE_ROOM;
+use crate::calls::next_place;
+use crate::calls::run;
+use crate::calls::runs;
+use crate::record::is_stopped;
+use crate::record::went;
+use rules::cost::Rates;
+use rules::replay::Fed;
+use rules::replay::Pause;
+use rules::replay::Phase;
+use rules::replay::Printed;
+use rules::replay::Replay;
+use rules::trace::Read;
+use rules::tree::Tree;
+
+// Where every replay begins: the root alone, and no model yet.
+pub fn beginning() -> Replay
+    ensures { λ r. ⌜ (r ≡ beginningOf) × Playing r ⌝ }
+{
+    let rates = Rates {
+        rbps: 4096,
+        rseqiops: 1,
+        rrandiops: 1,
+        wbps: 4096,
+        wseqiops: 1,
+        wrandiops: 1,
+    };
+    let tree = Tree {
+        count: 1,
+        parents: [0u8; 64],
+        weights: [0u16; 64],
+    };
+    let refused = controller::start::start(tree, rates, 0);
+    let state = refused.state;
+    Replay {
+        phase: Phase::Setup,
+        tree,
+        rates,
+        state,
+    }
+}
+
+// Nothing of a record is here, or not all of it.
+fn is_cut(read: Read) -> bool
+    ensures { λ b. ⌜ b ≡ isCut read ⌝ }
+{
+    match read {
+        Read::Found(_, _) => false,
+        Read::End => true,
+        Read::Refused(x) => lines::number_of(x) == 17,
+    }
+}
+
+fn is_end(read: Read) -> bool
+    ensures { λ b. ⌜ b ≡ isEnd read ⌝ }
+{
+    match read {
+        Read::Found(_, _) => false,
+        Read::End => true,
+        Read::Refused(_) => false,
+    }
+}
+
+// More bytes may make a record whole, so 17 is given at the true end alone.
+fn wants_bytes(last: bool, read: Read) -> bool
+    ensures { λ b. ⌜ b ≡ wantsBytes last read ⌝ }
+{
+    is_cut(read) & !last
+}
+
+// Does the replay stay where it is? `room` is what is left of the lent buffer.
+fn halts(last: bool, read: Read, room: usize, phase: Phase) -> bool
+    ensures { λ b. ⌜ ((s : Replay) → s .phase ≡ phase → b ≡ haltsOf last read room s) ⌝ }
+{
+    if is_stopped(phase) {
+        return true;
+    }
+    if wants_bytes(last, read) {
+        return true;
+    }
+    if is_end(read) {
+        return true;
+    }
+    room < LINE_ROOM
+}
+
+// And why.
+fn pause_of(last: bool, read: Read, phase: Phase) -> Pause
+    ensures { λ r. ⌜ ((s : Replay) → s .phase ≡ phase → r ≡ pauseOf last read s) ⌝ }
+{
+    if is_stopped(phase) {
+        return Pause::Over;
+    }
+    if wants_bytes(last, read) {
+        return Pause::Bytes;
+    }
+    if is_end(read) {
+        return Pause::Over;
+    }
+    Pause::Room
+}
+
+// For as long as the next record is whole and any record's lines have room: calls by the run, other records one a turn.
+pub fn feed(mut s: Replay, trace: &[u8], place: usize, last: bool, out: &mut [u8]) -> Fed
+    requires { ⌜ Playing s ⌝ }
+    ensures { λ r. ⌜ (r ≡ fed last (now (trace .entry)) (length (now (out .entry))) place s) × Written (part last (now (trace .entry)) (length (now (out .entry))) place s .bytes) (r .count) (now (out .entry)) (now (out .exit)) × Playing (r .replay) × (r .count ≤ length (now (out .entry))) × (place ≤ length (now (trace .entry)) → r .place ≤ length (now (trace .entry))) ⌝ }
+{
+    let mut at = place;
+    let mut count: usize = 0;
+    let mut read = trace::decoder::read_at(trace, at);
+    let mut phase = s.phase;
+    while !halts(last, read, out.len() - count, phase) {
+        if runs(phase, read) {
+            let ran = run(s.state, trace, at, trace.len(), &mut out[count..]);
+            count += ran.count;
+            at = ran.place;
+            let state = ran.state;
+            s.state = state;
+            read = trace::decoder::read_at(trace, at);
+        } else {
+            let step = went(read, s, &mut out[count..]);
+            count += step.count;
+            at = next_place(read, at);
+            let after = step.replay;
+            phase = after.phase;
+            s = after;
+            read = trace::decoder::read_at(trace, at);
+        }
+    }
+    Fed {
+        pause: pause_of(last, read, phase),
+        place: at,
+        count,
+        replay: s,
+    }
+}
+
+// A whole lent trace.
+pub fn whole(trace: &[u8], out: &mut [u8]) -> Printed
+    ensures { λ r. ⌜ (r ≡ wholeOf (now (trace .entry)) (length (now (out .entry)))) × (now (out .exit) ≡ wholePart (now (trace .entry)) (length (now (out .entry))) .bytes ++ drop (length (wholePart (now (trace .entry)) (length (now (out .entry))) .bytes)) (now (out .entry))) × ((n : ℕ) → r ≡ Printed.Bytes n → Written (replay (now (trace .entry))) n (now (out .entry)) (now (out .exit))) ⌝ }
+{
+    let fed = feed(beginning(), trace, 0, true, out);
+    let pause = fed.pause;
+    match pause {
+        Pause::Over => Printed::Bytes(fed.count),
+        Pause::Bytes => Printed::Short,
+        Pause::Room => Printed::Short,
+    }
+}
+
+// What is left of a chunk goes to its buffer's front, and the next bytes of the trace behind it.
+pub fn carry(buf: &mut [u8], from: usize, to: usize) -> usize
+    requires { ⌜ (from ≤ to) × (to ≤ length (now buf)) ⌝ }
+    ensures { λ r. ⌜ (r ≡ to - from) × (now (buf .exit) ≡ take (to - from) (drop from (now (buf .entry))) ++ drop (to - from) (now (buf .entry))) ⌝ }
+{
+    let count = to - from;
+    for i in 0..count {
+        buf[i] = buf[from + i];
+    }
+    count
+}

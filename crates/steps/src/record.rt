@@ -1,0 +1,146 @@
+// One record: 16 and 17 are found by the reader, 18 is decided here, and the record's own refusals where it is carried out.
+ghost use mathlib.Core.Path.{_≡_};
+ghost use mathlib.Core.Bool.{false};
+ghost use Prim.Native.Nat.{_≤_};
+ghost use lib.ListN.{length};
+ghost use lib.Dec.{leb};
+ghost use Rattle.rules.specs.Trace.{kindOf, readAt};
+ghost use Rattle.rules.specs.Replay.{stopsAt, inPhase, isStopped, recordStep, readStep};
+ghost use Rattle.rules.specs.Chunks.{runs, stepping, steppedTo};
+ghost use Rattle.rules.specs.Invariant.{Playing};
+ghost use Rattle.steps.specs.Went.{Does};
+use crate::calls::LINE_ROOM;
+use crate::calls::run;
+use crate::calls::runs;
+use crate::setup;
+use rules::refusals::Refusal;
+use rules::replay::Phase;
+use rules::replay::Printed;
+use rules::replay::Replay;
+use rules::replay::Stepped;
+use rules::trace::Read;
+use rules::trace::Record;
+
+// How many bytes were written, and the replay after it.
+pub struct After {
+    pub count: usize,
+    pub replay: Replay,
+}
+
+// "After R in setup, or 16 to 18, it stops".
+pub fn stopped(x: Refusal, s: Replay, out: &mut [u8]) -> After
+    requires { ⌜ 5 ≤ length (now out) ⌝ }
+    ensures { λ r. ⌜ Does (stopsAt x s) (r .count) (r .replay) (now (out .entry)) (now (out .exit)) ⌝ }
+{
+    let tree = s.tree;
+    let rates = s.rates;
+    let state = s.state;
+    let count = lines::put_refusal(x, out);
+    After {
+        count,
+        replay: Replay {
+            phase: Phase::Stopped,
+            tree,
+            rates,
+            state,
+        },
+    }
+}
+
+// "Setup: 1 node .. After start: .."; "Exactly one model ..".
+fn in_phase(phase: Phase, r: Record) -> bool
+    ensures { λ b. ⌜ b ≡ inPhase phase (kindOf r) ⌝ }
+{
+    let kind = trace::layout::kind_of(r);
+    match phase {
+        Phase::Setup => (kind == 1) | (kind == 2),
+        Phase::Priced => (kind == 1) | (kind == 3),
+        Phase::Running => 4 <= kind,
+        Phase::Stopped => false,
+    }
+}
+
+// A record of setup in its phase. The others are calls, and none of them is in its phase before start.
+fn carried(r: Record, s: Replay, out: &mut [u8]) -> After
+    requires { ⌜ Playing s × (5 ≤ length (now out)) × (leb 4 (kindOf r) ≡ false) ⌝ }
+    ensures { λ w. ⌜ Does (recordStep r s) (w .count) (w .replay) (now (out .entry)) (now (out .exit)) ⌝ }
+{
+    match r {
+        Record::Node(parent, weight) => setup::node(parent, weight, s, out),
+        Record::Model(rates) => setup::model(rates, s, out),
+        Record::Start(time) => setup::start(time, s, out),
+        Record::Bio(_) => stopped(Refusal::WrongPhase, s, out),
+        Record::Tick(_) => stopped(Refusal::WrongPhase, s, out),
+        Record::Plan => stopped(Refusal::WrongPhase, s, out),
+        Record::Vrate(_) => stopped(Refusal::WrongPhase, s, out),
+    }
+}
+
+pub fn is_stopped(phase: Phase) -> bool
+    ensures { λ b. ⌜ b ≡ isStopped phase ⌝ }
+{
+    match phase {
+        Phase::Setup => false,
+        Phase::Priced => false,
+        Phase::Running => false,
+        Phase::Stopped => true,
+    }
+}
+
+// What is read at a place, in a replay that has not stopped, if it is no call in its phase.
+pub fn went(read: Read, s: Replay, out: &mut [u8]) -> After
+    requires { ⌜ Playing s × (5 ≤ length (now out)) × (runs (s .phase) read ≡ false) ⌝ }
+    ensures { λ r. ⌜ Does (readStep read s) (r .count) (r .replay) (now (out .entry)) (now (out .exit)) ⌝ }
+{
+    match read {
+        Read::Found(r, _) => {
+            let phase = s.phase;
+            if in_phase(phase, r) {
+                carried(r, s, out)
+            } else {
+                stopped(Refusal::WrongPhase, s, out)
+            }
+        }
+        Read::End => After {
+            count: 0,
+            replay: s,
+        },
+        Read::Refused(x) => stopped(x, s, out),
+    }
+}
+
+// One step, over what stands at a place of a trace: a replay that has stopped reads and prints no more.
+pub fn step(mut s: Replay, trace: &[u8], at: usize, out: &mut [u8]) -> Stepped
+    requires { ⌜ Playing s ⌝ }
+    ensures { λ r. ⌜ (r ≡ stepping (readAt (now (trace .entry)) at) s (now (out .entry))) × (now (out .exit) ≡ steppedTo (readAt (now (trace .entry)) at) s (now (out .entry))) ⌝ }
+{
+    if out.len() < LINE_ROOM {
+        return Stepped {
+            printed: Printed::Short,
+            replay: s,
+        };
+    }
+    let phase = s.phase;
+    if is_stopped(phase) {
+        return Stepped {
+            printed: Printed::Bytes(0),
+            replay: s,
+        };
+    }
+    let read = trace::decoder::read_at(trace, at);
+    if runs(phase, read) {
+        let ran = run(s.state, trace, at, 1, out);
+        let state = ran.state;
+        s.state = state;
+        return Stepped {
+            printed: Printed::Bytes(ran.count),
+            replay: s,
+        };
+    }
+    let after = went(read, s, out);
+    let replay = after.replay;
+    Stepped {
+        printed: Printed::Bytes(after.count),
+        replay,
+    }
+}
