@@ -1,0 +1,34 @@
+-- `replay::run::replayed` meets its contract, by what `feed` ensures of the bytes that wait.
+-- Assumes nothing.
+use mathlib.Core.Path.{sym}
+use Prim.Native.Nat.{zero-le}
+use native.Mathlib.Nat.{le-trans, le-of-eq}
+use native.Mathlib.Omega.{arith}
+use lib.Seq.{length-take-le}
+use borrow.Author.Needs.{needs}
+use Rattle.replay.proofs.run.replayed.Statement.{statement}
+use Rattle.replay.proofs.run.replayed.Tie as tie
+
+slice-aggregate-feed : tie.Need-slice-aggregate-feed
+slice-aggregate-feed c = sym (length-take-le _ _ (c .before .before .before .before .pre .1))
+
+feed-requires : tie.Need-feed-requires
+feed-requires c κs = search needs
+
+same-length : tie.Need-same-length
+same-length c = search needs
+
+returns : tie.Need-returns
+returns c =
+    let f = c .before .before .feed .ensures in
+    let size = length-take-le _ _ (c .before .before .before .before .before .before .before .before .pre .1) in
+    record {
+      feeds = f .0;
+      lines = f .1;
+      playing = f .2;
+      fits = omega (arith, f .3);
+      inside = le-trans (f .4 zero-le) (le-of-eq size);
+    }
+
+pub replayed-spec : {M : Type 1} → statement M
+replayed-spec = tie.close (tie.spec slice-aggregate-feed feed-requires same-length returns)

@@ -1,0 +1,80 @@
+-- `replay::run::run` is safe and ends: the measure is the number of turns that are left, and it stands well from turn to turn.
+-- Assumes nothing.
+use mathlib.Core.Path.{_≡_, sym}
+use Prim.Native.Nat.{zero-le}
+use lib.ListN.{length}
+use borrow.Author.Needs.{needs}
+use Rattle.replay.specs.Turns.{Stands}
+use Rattle.replay.proofs.run.run.Statement.{statement}
+use Rattle.replay.proofs.run.run.Tie as tie
+
+abbrev Inv-loop : tie.InvT-loop
+Inv-loop fd watched chunk₀ out₀ s₀ turns₀ chunk out s turns =
+    Stands s (length chunk) × (65536 ≡ length chunk) × (65536 ≡ length out)
+
+abbrev μ-loop : tie.MeasureT-loop
+μ-loop fd watched chunk₀ out₀ s₀ turns₀ chunk out s turns = turns
+
+is-watched-requires : tie.Need-is-watched-requires Inv-loop μ-loop
+is-watched-requires c κs = search needs
+
+large-buffer-requires : tie.Need-large-buffer-requires Inv-loop μ-loop
+large-buffer-requires c κs = search needs
+
+large-buffer-requires-2 : tie.Need-large-buffer-requires-2 Inv-loop μ-loop
+large-buffer-requires-2 c κs = search needs
+
+beginning-requires : tie.Need-beginning-requires Inv-loop μ-loop
+beginning-requires c κs = search needs
+
+loop-holds : tie.Need-loop-holds Inv-loop μ-loop
+loop-holds c =
+    ((c .beginning .ensures .1, zero-le), c .before .before .large-buffer .ensures, c .before .large-buffer2 .ensures)
+
+slice-aggregate-turn : tie.Need-slice-aggregate-turn Inv-loop μ-loop
+slice-aggregate-turn c = c .before .before .before .loop .inv .1
+
+slice-aggregate-turn-2 : tie.Need-slice-aggregate-turn-2 Inv-loop μ-loop
+slice-aggregate-turn-2 c = c .before .before .before .before .loop .inv .2
+
+turn-requires : tie.Need-turn-requires Inv-loop μ-loop
+turn-requires c κs = c .before .before .before .before .loop .inv .0
+
+sub-turns : tie.Need-sub-turns Inv-loop μ-loop
+sub-turns c = search needs
+
+loop-less : tie.Need-loop-less Inv-loop μ-loop
+loop-less c = search needs
+
+loop-again : tie.Need-loop-again Inv-loop μ-loop
+loop-again c = (c .before .before .turn .ensures .stands, sym (c .before .chunk2 .given), sym (c .out2 .given))
+
+no-progress-requires : tie.Need-no-progress-requires Inv-loop μ-loop
+no-progress-requires c κs = search needs
+
+returns : tie.Need-returns Inv-loop μ-loop
+returns c = search needs
+
+returns-2 : tie.Need-returns-2 Inv-loop μ-loop
+returns-2 c = search needs
+
+pub run-spec : {M : Type 1} → statement M
+run-spec =
+    tie.close
+    (tie.spec
+    Inv-loop
+    μ-loop
+    is-watched-requires
+    large-buffer-requires
+    large-buffer-requires-2
+    beginning-requires
+    loop-holds
+    slice-aggregate-turn
+    slice-aggregate-turn-2
+    turn-requires
+    sub-turns
+    loop-less
+    loop-again
+    no-progress-requires
+    returns
+    returns-2)

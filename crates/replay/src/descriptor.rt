@@ -1,0 +1,71 @@
+// Bytes to and from a descriptor. A call that a signal broke off, or that came before a descriptor that does not wait was
+// ready, moved nothing and is made again, so that no byte is lost to a slow reader. Any other failure is for the caller to
+// say, and errno tells which.
+ghost use Prim.Native.Nat.{_≤_};
+ghost use lib.ListN.{length};
+use libc::EAGAIN;
+use libc::EINTR;
+
+// A proved loop has to end, and nothing says that a call succeeds at last or that a trace ends. So such a loop counts its
+// turns down, from a number that no run uses up.
+pub const TURNS: u64 = u64::MAX;
+
+// Is the call that answered so just now worth making again?
+fn again(answer: isize) -> bool {
+    if answer >= 0 {
+        return false;
+    }
+    let error = os::errno();
+    if error == EAGAIN {
+        libc::sched_yield();
+        return true;
+    }
+    error == EINTR
+}
+
+// What a read brought, which is nothing at the end and where it failed.
+pub struct Got {
+    pub count: usize,
+    pub failed: bool,
+}
+
+pub fn read(fd: i32, buf: &mut [u8]) -> Got
+    ensures { λ r. ⌜ r .count ≤ length (now (buf .exit)) ⌝ }
+{
+    let mut got = libc::read(fd, buf);
+    let mut turns = TURNS;
+    while turns > 0 && again(got) {
+        got = libc::read(fd, buf);
+        turns -= 1;
+    }
+    Got {
+        count: io::count(got, buf),
+        failed: got < 0,
+    }
+}
+
+// How many of the first bytes a write took, or 0 where it failed.
+fn write_some(fd: i32, buf: &[u8]) -> usize
+    ensures { λ r. ⌜ r ≤ length (now (buf .entry)) ⌝ }
+{
+    let mut put = libc::write(fd, buf);
+    let mut turns = TURNS;
+    while turns > 0 && again(put) {
+        put = libc::write(fd, buf);
+        turns -= 1;
+    }
+    io::count(put, buf)
+}
+
+// Was all of it written?
+pub fn write(fd: i32, buf: &[u8]) -> bool {
+    let mut done: usize = 0;
+    while done < buf.len() {
+        let put = write_some(fd, &buf[done..]);
+        if put == 0 {
+            return false;
+        }
+        done += put;
+    }
+    true
+}

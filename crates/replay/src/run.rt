@@ -1,0 +1,171 @@
+// The loop: bytes come in and lines go out, turn by turn, in two buffers of a fixed size, however long the trace is. All
+// lines are written before the next read, which may wait.
+ghost use mathlib.Core.Path.{_≡_};
+ghost use mathlib.Core.Bool.{true};
+ghost use Prim.Native.Nat.{_≤_};
+ghost use lib.ListN.{length};
+ghost use Rattle.rules.specs.Invariant.{Playing};
+ghost use Rattle.replay.specs.Turns.{Stands, Replayed, Carried, Onward, Turned};
+use crate::descriptor::TURNS;
+use crate::descriptor::read;
+use crate::descriptor::write;
+use crate::said;
+use libc::STDOUT_FILENO;
+use rules::replay::Fed;
+use rules::replay::Pause;
+use rules::replay::Replay;
+use steps::chunk::beginning;
+use steps::chunk::carry;
+use steps::chunk::feed;
+
+// Why a run is over.
+pub enum End {
+    Over,
+    Unread,
+    Unwritten,
+}
+
+// Where a run stands. The first `filled` bytes of the chunk buffer wait to be replayed, and if `last`, no more will come
+// after them; `total` bytes were read so far.
+pub struct Standing {
+    pub replay: Replay,
+    pub filled: usize,
+    pub last: bool,
+    pub total: u64,
+    pub going: bool,
+    pub end: End,
+}
+
+fn ended(s: Standing, end: End) -> Standing
+    ensures { λ r. ⌜ (r .replay ≡ s .replay) × (r .filled ≡ s .filled) × (r .end ≡ end) ⌝ }
+{
+    let replay = s.replay;
+    Standing {
+        replay,
+        filled: s.filled,
+        last: s.last,
+        total: s.total,
+        going: false,
+        end,
+    }
+}
+
+fn wide(n: usize) -> u64 {
+    n as u64
+}
+
+// How many bytes were read with those that came now, which who watches is told.
+fn counted(total: u64, count: usize, watched: bool) -> u64 {
+    let total = std::num::wrapping_add_u64(total, wide(count));
+    if watched {
+        said::progress(total);
+    }
+    total
+}
+
+// One read, to behind the bytes that wait.
+fn more(s: Standing, fd: i32, watched: bool, chunk: &mut [u8]) -> Standing
+    requires { ⌜ Stands s (length (now chunk)) ⌝ }
+    ensures { λ r. ⌜ Onward Pause.Bytes s (now (chunk .entry)) r (now (chunk .exit)) ⌝ }
+{
+    let filled = s.filled;
+    let got = read(fd, &mut chunk[filled..]);
+    if got.failed {
+        return ended(s, End::Unread);
+    }
+    let replay = s.replay;
+    Standing {
+        replay,
+        filled: filled + got.count,
+        last: got.count == 0,
+        total: counted(s.total, got.count, watched),
+        going: true,
+        end: End::Over,
+    }
+}
+
+fn onward(pause: Pause, s: Standing, fd: i32, watched: bool, chunk: &mut [u8]) -> Standing
+    requires { ⌜ Stands s (length (now chunk)) × (s .going ≡ true) ⌝ }
+    ensures { λ r. ⌜ Onward pause s (now (chunk .entry)) r (now (chunk .exit)) ⌝ }
+{
+    match pause {
+        Pause::Over => ended(s, End::Over),
+        Pause::Bytes => more(s, fd, watched, chunk),
+        Pause::Room => s,
+    }
+}
+
+fn flush(lines: &[u8], total: u64, watched: bool) -> bool {
+    if lines.len() == 0 {
+        return true;
+    }
+    if watched {
+        said::no_progress(total);
+    }
+    write(STDOUT_FILENO, lines)
+}
+
+// The bytes that wait, as far as they go.
+fn replayed(s: Standing, chunk: &[u8], out: &mut [u8]) -> Fed
+    requires { ⌜ Stands s (length (now chunk)) ⌝ }
+    ensures { λ f. ⌜ Replayed s (now (chunk .entry)) (now (out .entry)) (now (out .exit)) f ⌝ }
+{
+    let replay = s.replay;
+    let filled = s.filled;
+    feed(replay, &chunk[..filled], 0, s.last, out)
+}
+
+// What they leave goes to the buffer's front.
+fn carried(fed: Fed, s: Standing, chunk: &mut [u8]) -> Standing
+    requires { ⌜ Playing (fed .replay) × (fed .place ≤ s .filled) × (s .filled ≤ length (now chunk)) ⌝ }
+    ensures { λ r. ⌜ Carried fed s (now (chunk .entry)) r (now (chunk .exit)) ⌝ }
+{
+    let replay = fed.replay;
+    Standing {
+        replay,
+        filled: carry(chunk, fed.place, s.filled),
+        last: s.last,
+        total: s.total,
+        going: true,
+        end: End::Over,
+    }
+}
+
+// One turn: what waits is replayed, its lines are written, and more is read if that is what the replay wants.
+fn turn(s: Standing, fd: i32, watched: bool, chunk: &mut [u8], out: &mut [u8]) -> Standing
+    requires { ⌜ Stands s (length (now chunk)) ⌝ }
+    ensures { λ r. ⌜ Turned s (now (chunk .entry)) (length (now (out .entry))) r (now (chunk .exit)) ⌝ }
+{
+    let fed = replayed(s, chunk, out);
+    let after = carried(fed, s, chunk);
+    let count = fed.count;
+    if !flush(&out[0..count], s.total, watched) {
+        return ended(after, End::Unwritten);
+    }
+    let pause = fed.pause;
+    onward(pause, after, fd, watched, chunk)
+}
+
+pub fn run(fd: i32) -> End {
+    let watched = said::is_watched();
+    let mut chunk = io::large_buffer();
+    let mut out = io::large_buffer();
+    let mut s = Standing {
+        replay: beginning(),
+        filled: 0,
+        last: false,
+        total: 0,
+        going: true,
+        end: End::Over,
+    };
+    let mut turns = TURNS;
+    while turns > 0 && s.going {
+        s = turn(s, fd, watched, &mut chunk, &mut out);
+        turns -= 1;
+    }
+    if watched {
+        said::no_progress(s.total);
+    }
+    let end = s.end;
+    end
+}

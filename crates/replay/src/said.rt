@@ -1,0 +1,88 @@
+// What goes to standard error: one line for what went wrong, which says what to do about it, and on a terminal how far the
+// replay has come, in one place that is left empty again.
+use crate::descriptor::write;
+use libc::STDERR_FILENO;
+use libc::STDOUT_FILENO;
+
+const MEGABYTE: u64 = 1000000;
+
+fn say(text: &[u8]) {
+    write(STDERR_FILENO, text);
+}
+
+// The end of such a line: what to do, and why the last call failed.
+fn unread() {
+    os::fail(b" (name a trace file, or none to read standard input)");
+}
+
+pub fn too_many() {
+    say(b"replay: too many arguments: name one trace file, or none to read standard input\n");
+}
+
+pub fn argument_unread() {
+    say(b"replay: cannot read its argument");
+    unread();
+}
+
+pub fn input_unread() {
+    say(b"replay: cannot read standard input");
+    unread();
+}
+
+pub fn output_unwritten() {
+    say(b"replay: cannot write standard output");
+    os::fail(b" (make room there, or send it elsewhere)");
+}
+
+// A byte of a file's name, where a byte that could break the line or move the cursor is a question mark.
+fn shown(byte: u8) -> u8 {
+    if byte < 32 {
+        return b'?';
+    }
+    if byte == 127 {
+        return b'?';
+    }
+    byte
+}
+
+fn make_plain(name: &mut [u8]) {
+    let mut i: usize = 0;
+    while i < name.len() {
+        name[i] = shown(name[i]);
+        i += 1;
+    }
+}
+
+pub fn file_unread(path: &mut [u8]) {
+    make_plain(path);
+    say(b"replay: cannot read '");
+    say(path);
+    say(b"'");
+    unread();
+}
+
+// Progress is for who waits at a terminal and sees no lines come.
+pub fn is_watched() -> bool {
+    if libc::isatty(STDERR_FILENO) != 1 {
+        return false;
+    }
+    libc::isatty(STDOUT_FILENO) != 1
+}
+
+pub fn progress(total: u64) {
+    let megabytes = total / MEGABYTE;
+    if megabytes == 0 {
+        return;
+    }
+    say(b"\rreplay: ");
+    io::print_decimal(STDERR_FILENO, megabytes);
+    say(b" MB read");
+}
+
+// Where nothing may be left: before the lines go on, since a write to a pipe that nobody reads any more ends the program.
+pub fn no_progress(total: u64) {
+    if total < MEGABYTE {
+        return;
+    }
+    say(b"\r                        \r");
+}
