@@ -40,6 +40,24 @@ impl Census {
         }
     }
 
+    /// Adds what another census counted.
+    pub fn merge(&mut self, other: &Census) {
+        self.traces += other.traces;
+        self.records += other.records;
+        add_each(&mut self.events, &other.events);
+        add_each(&mut self.letters, &other.letters);
+        add_each(&mut self.refusals, &other.refusals);
+    }
+
+    pub fn records(&self) -> u64 {
+        self.records
+    }
+
+    /// Lines printed by all replays.
+    pub fn lines(&self) -> u64 {
+        self.letters.iter().sum()
+    }
+
     fn hit(&mut self, event: Event) {
         self.events[event as usize] += 1;
     }
@@ -132,24 +150,25 @@ impl Census {
         out.flush()
     }
 
-    /// The names of all that was asked for and never reached.
-    pub fn missing(&self) -> Vec<String> {
-        let mut names = Vec::new();
-        for (name, &count) in LETTERS.iter().zip(&self.letters) {
-            if count == 0 {
-                names.push(name.to_string());
-            }
-        }
-        for (refusal, &count) in Refusal::ALL.iter().zip(&self.refusals) {
-            if count == 0 && !EXEMPT.contains(refusal) {
-                names.push(format!("refusal-{}", refusal.number()));
-            }
-        }
-        for (event, &count) in Event::ALL.iter().zip(&self.events) {
-            if count == 0 {
-                names.push(event.name().to_string());
-            }
-        }
-        names
+    /// All that is asked for by name, and how often it was reached.
+    pub fn asked(&self) -> Vec<(String, u64)> {
+        let letters = LETTERS.iter().map(|name| name.to_string());
+        let refusals = Refusal::ALL.iter().zip(&self.refusals);
+        let events = Event::ALL.iter().map(|event| event.name().to_string());
+        letters
+            .zip(self.letters.iter().copied())
+            .chain(
+                refusals
+                    .filter(|(refusal, _)| !EXEMPT.contains(refusal))
+                    .map(|(refusal, &count)| (format!("refusal-{}", refusal.number()), count)),
+            )
+            .chain(events.zip(self.events.iter().copied()))
+            .collect()
+    }
+}
+
+fn add_each(sums: &mut [u64], counts: &[u64]) {
+    for (sum, count) in sums.iter_mut().zip(counts) {
+        *sum += count;
     }
 }

@@ -96,15 +96,17 @@ fn show(line: &Option<Vec<u8>>) -> String {
     }
 }
 
-/// Prints a difference and the record behind it.
+/// Prints a difference between two outputs, which have names, and the record
+/// behind it.
 pub fn report(
     difference: &Difference,
     found: &Option<Found>,
+    names: (&str, &str),
     out: &mut impl Write,
 ) -> io::Result<()> {
     writeln!(out, "line {}", difference.line)?;
-    writeln!(out, "ours:   {}", show(&difference.ours))?;
-    writeln!(out, "theirs: {}", show(&difference.theirs))?;
+    writeln!(out, "{}: {}", names.0, show(&difference.ours))?;
+    writeln!(out, "{}: {}", names.1, show(&difference.theirs))?;
     match found {
         None => writeln!(out, "no record of the trace prints a line")?,
         Some(found) => {

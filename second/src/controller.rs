@@ -65,6 +65,9 @@ impl Controller {
 
     /// Submits a bio; refusals 4 to 8.
     pub fn submit(&mut self, bio: &Bio) -> Result<Answer, Refusal> {
+        if self.rules.changed(Mutant::RangeBeforeLeaf) {
+            bio.check()?;
+        }
         let number = self.leaf_of(bio)?;
         let judged = self.judge(number, bio);
         if judged.is_ok() || self.rules.changed(Mutant::RefusedMovesEnd) {
@@ -109,6 +112,10 @@ impl Controller {
         bio.check()?;
         let cost = self.cost_of(number, bio);
         if cost > self.limit(MAX_COST, Mutant::CostLimitOneLess) {
+            let full = !bio.is_forced() && self.leaves[number].queue.len() == QUEUE_ROOM;
+            if full && self.rules.changed(Mutant::QueueBeforeCost) {
+                return Err(Refusal::QueueFull);
+            }
             return Err(Refusal::CostLimit);
         }
         let answer = if bio.is_forced() {
@@ -214,6 +221,12 @@ impl Controller {
         }
         let elapsed = time - self.time;
         if elapsed > MAX_ELAPSED - u64::from(self.rules.changed(Mutant::ElapsedLimitOneLess)) {
+            let room = MAX_PERIOD - self.period;
+            // At any rate, a hundred periods are too long.
+            let long = floor(elapsed.min(100 * MAX_PERIOD), u64::from(self.vrate), 100) > room;
+            if long && self.rules.changed(Mutant::PeriodBeforeJump) {
+                return Err(Refusal::PeriodLimit);
+            }
             return Err(Refusal::TimeJump);
         }
         let growth = if self.rules.changed(Mutant::GrowthRoundedUp) {
@@ -253,7 +266,9 @@ impl Controller {
         self.donors = self.donate(&mut shares);
         self.set_shares(&shares);
         for number in members(self.tree.leaves()) {
-            self.leaves[number].usage = Absolute(0);
+            if !self.rules.changed(Mutant::UsageKept) {
+                self.leaves[number].usage = Absolute(0);
+            }
             self.leaves[number].accepted = false;
         }
         self.period = 0;
@@ -284,6 +299,9 @@ impl Controller {
             if !leaf.accepted && leaf.is_clear() {
                 self.active &= !(1 << number);
                 leaf.share = 0;
+                if self.rules.changed(Mutant::EndForgotten) {
+                    leaf.end = None;
+                }
                 if !self.rules.changed(Mutant::InactiveKeepsBudget) {
                     leaf.budget = Relative(0);
                 }
@@ -343,8 +361,13 @@ impl Controller {
             shares[number] = floor(shares[number], pool, base_of_others);
             rest -= shares[number];
         }
+        let taker = if self.rules.changed(Mutant::RemainderToLast) {
+            63 - others.leading_zeros()
+        } else {
+            others.trailing_zeros()
+        };
         if !self.rules.changed(Mutant::RemainderLost) {
-            shares[others.trailing_zeros() as usize] += rest;
+            shares[taker as usize] += rest;
         }
         donors
     }

@@ -3,7 +3,7 @@
 use crate::cost::Bio;
 use crate::random::Random;
 use crate::setup::BENCH;
-use crate::trace::{encode, record_length, Record, LONGEST, START, VRATE};
+use crate::trace::{decode, encode, record_length, Record, LONGEST, START, VRATE};
 
 /// Damages a trace that was good up to its last record.
 pub fn damage(trace: &mut Vec<u8>, random: &mut Random) {
@@ -19,6 +19,56 @@ pub fn damage(trace: &mut Vec<u8>, random: &mut Random) {
         7 => replace_by_noise(trace, random),
         _ => cut_run_record_in_setup(trace, random),
     }
+}
+
+/// Puts random bytes everywhere, behind a good setup, at a few places or in
+/// one run of a trace that was good.
+pub fn noise(trace: &mut [u8], random: &mut Random) {
+    let length = trace.len() as u64;
+    let (first, last) = match random.below(4) {
+        0 => (0, length),
+        1 => (setup_length(trace) as u64, length),
+        2 => return scatter(trace, random),
+        _ => {
+            let first = random.below(length + 1);
+            (first, random.between(first, length))
+        }
+    };
+    // Half of the bytes are kinds, so that noise is not refused at once.
+    for byte in &mut trace[first as usize..last as usize] {
+        *byte = match random.below(2) {
+            0 => random.between(u64::from(START) + 1, u64::from(VRATE)) as u8,
+            _ => random.number() as u8,
+        };
+    }
+}
+
+/// Changes a few bytes of a trace, if it has any.
+pub fn scatter(trace: &mut [u8], random: &mut Random) {
+    let length = trace.len() as u64;
+    for _ in 0..random.between(1, 5).min(length) {
+        let place = random.below(length) as usize;
+        trace[place] = random.number() as u8;
+    }
+}
+
+/// Puts one byte value, most likely a kind, everywhere behind the setup.
+pub fn repeat_behind_setup(trace: &mut [u8], random: &mut Random) {
+    let byte = random.below(u64::from(VRATE) + 2) as u8;
+    let first = setup_length(trace);
+    trace[first..].iter_mut().for_each(|place| *place = byte);
+}
+
+/// How many bytes lie before the first record behind the start.
+fn setup_length(trace: &[u8]) -> usize {
+    let mut place = 0;
+    while let Ok(Some((record, behind))) = decode(trace, place) {
+        place = behind;
+        if record.kind() == START {
+            break;
+        }
+    }
+    place
 }
 
 /// Adds the beginning of a record with a kind from `least` to `most`.

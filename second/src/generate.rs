@@ -4,13 +4,14 @@
 use std::io::{self, Write};
 
 use crate::controller::Controller;
-use crate::damage::damage;
+use crate::damage::{damage, noise};
 use crate::moves::{EDGE_MOVES, USUAL_MOVES};
 use crate::moves_of_debt::climb_to_debt_limit;
+use crate::moves_of_load::{DEEP_MOVES, FEW_MOVES, FULL_MOVES, IDLE_MOVES};
 use crate::random::Random;
 use crate::replay::{Outcome, Replay};
 use crate::rules::Rules;
-use crate::setup::{bad_setup, dearest_setup, good_setup};
+use crate::setup::{bad_setup, dearest_setup, deep_setup, few_setup, good_setup, wide_setup};
 use crate::trace::{encode, Record, LONGEST};
 
 named_list! {
@@ -20,6 +21,11 @@ named_list! {
         Valid = "valid",
         Damaged = "damaged",
         Edges = "edges",
+        Deep = "deep",
+        Few = "few",
+        Idle = "idle",
+        Full = "full",
+        Noise = "noise",
     }
 }
 
@@ -31,24 +37,35 @@ impl Style {
             .find(|style| style.name() == name)
     }
 
-    /// How many records follow the start if nothing else is asked for.
+    /// How many records follow the start if nothing else is asked for; how
+    /// many bytes there are in all for `noise`.
     pub fn usual_records(self) -> u64 {
         match self {
             Style::Short => 40,
-            Style::Long => 3_000,
+            Style::Long | Style::Deep | Style::Few | Style::Idle | Style::Full => 3_000,
             Style::Valid => 500,
             Style::Damaged => 120,
             Style::Edges => 700,
+            Style::Noise => 300,
         }
     }
 
-    /// One move in so many is an edge move.
-    fn edges_once_in(self) -> u64 {
-        match self {
+    /// The moves of one step.
+    fn moves(self, random: &mut Random) -> &'static [(u64, Move)] {
+        let edges_once_in = match self {
+            Style::Deep => return DEEP_MOVES,
+            Style::Few => return FEW_MOVES,
+            Style::Idle => return IDLE_MOVES,
+            Style::Full => return FULL_MOVES,
             Style::Short => 5,
             Style::Long | Style::Valid => 16,
-            Style::Damaged => 10,
+            Style::Damaged | Style::Noise => 10,
             Style::Edges => 2,
+        };
+        if random.once_in(edges_once_in) {
+            EDGE_MOVES
+        } else {
+            USUAL_MOVES
         }
     }
 }
@@ -143,11 +160,7 @@ impl Generator {
     }
 
     fn step(&mut self, style: Style) {
-        let moves = if self.random.once_in(style.edges_once_in()) {
-            EDGE_MOVES
-        } else {
-            USUAL_MOVES
-        };
+        let moves = style.moves(&mut self.random);
         let total = moves.iter().map(|(weight, _)| weight).sum();
         let mut chosen = self.random.below(total);
         for (weight, make) in moves {
@@ -167,17 +180,14 @@ impl Generator {
 }
 
 fn choose_setup(random: &mut Random, style: Style, climb: bool) -> Vec<Record> {
-    let bad = match style {
-        Style::Short => random.once_in(2),
-        Style::Edges => !climb && random.once_in(4),
-        Style::Long | Style::Valid | Style::Damaged => false,
-    };
-    if climb {
-        dearest_setup(random)
-    } else if bad {
-        bad_setup(random)
-    } else {
-        good_setup(random)
+    match style {
+        Style::Deep => deep_setup(random),
+        Style::Few => few_setup(),
+        Style::Idle | Style::Full => wide_setup(random),
+        Style::Edges if climb => dearest_setup(random),
+        Style::Edges if random.once_in(4) => bad_setup(random),
+        Style::Short if random.once_in(2) => bad_setup(random),
+        _ => good_setup(random),
     }
 }
 
@@ -202,13 +212,22 @@ fn generate_whole(seed: u64, records: u64, style: Style, out: &mut impl Write) -
 
 /// Writes the trace of a seed.
 pub fn generate(seed: u64, records: u64, style: Style, out: &mut impl Write) -> io::Result<()> {
-    if style == Style::Damaged {
-        let mut trace = Vec::new();
-        generate_whole(seed, records, style, &mut trace)?;
-        damage(&mut trace, &mut Random::new(!seed));
-        out.write_all(&trace)?;
-    } else {
-        generate_whole(seed, records, style, out)?;
+    match style {
+        Style::Damaged => {
+            let mut trace = Vec::new();
+            generate_whole(seed, records, style, &mut trace)?;
+            damage(&mut trace, &mut Random::new(!seed));
+            out.write_all(&trace)?;
+        }
+        Style::Noise => {
+            // A record takes at least a byte, so there are enough of them.
+            let mut trace = Vec::new();
+            generate_whole(seed, records, style, &mut trace)?;
+            trace.truncate(records as usize);
+            noise(&mut trace, &mut Random::new(!seed));
+            out.write_all(&trace)?;
+        }
+        _ => generate_whole(seed, records, style, out)?,
     }
     out.flush()
 }

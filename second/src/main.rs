@@ -3,30 +3,38 @@
 
 #[macro_use]
 mod named_list;
+mod against;
 mod aim;
+mod cases;
 mod census;
 mod compare;
 mod controller;
 mod cost;
 mod damage;
 mod events;
+mod expose;
 mod generate;
 mod leaf;
 mod ledger;
 mod moves;
 mod moves_of_debt;
 mod moves_of_donation;
+mod moves_of_load;
 mod numbers;
 mod observe;
+mod pair;
 mod random;
 mod refusal;
 mod replay;
+mod robust;
 mod rules;
 mod selftest;
 mod setup;
+mod tally;
 mod text;
 mod trace;
 mod tree;
+mod watch;
 
 use std::env;
 use std::fs::File;
@@ -36,10 +44,24 @@ use std::process::ExitCode;
 use census::Census;
 use generate::Style;
 use rules::{Mutant, Rules};
+use tally::Tally;
 
-const USAGE: &str = "usage: second replay [FILE] | selftest | gen SEED [RECORDS] [STYLE] \
-| census [FILE...] | compare OURS THEIRS TRACE | text [FILE] | bytes [FILE] \
-| mutant K replay [FILE] | mutants";
+const USAGE: &str = "usage: second COMMAND
+  replay [FILE]                 replay a trace
+  text [FILE]                   list a trace as text
+  bytes [FILE]                  make a trace from text
+  gen SEED [RECORDS] [STYLE]    generate a trace
+  census [FILE...]              count what traces reach
+  compare OURS THEIRS TRACE     compare two outputs of a trace
+  mutants                       list the mutants
+  mutant K replay [FILE]        replay a trace by changed rules
+  selftest                      test this program
+  against OURS [OPTION...]      compare with another program on many traces
+  cases OURS [OPTION...]        try both programs on stored cases
+  robust OURS [OPTION...]       try both programs on damaged traces
+  expose [OPTION...]            find the traces that tell mutants apart
+options: --seed N  --cases FOLDER  --keep FOLDER  --progress
+Without FILE, standard input is read.";
 
 /// Whether a command found all as it should be, or why it could not tell.
 type Done = Result<bool, String>;
@@ -54,7 +76,7 @@ fn main() -> ExitCode {
         Ok(true) => ExitCode::SUCCESS,
         Ok(false) => ExitCode::from(1),
         Err(message) => {
-            eprintln!("second: {}", message);
+            eprintln!("{}", message);
             ExitCode::from(2)
         }
     }
@@ -80,12 +102,88 @@ fn run(words: &[&str]) -> Done {
         ["text", file] => list_text(Some(*file)),
         ["bytes"] => make_bytes(None),
         ["bytes", file] => make_bytes(Some(*file)),
+        ["against", ours, rest @ ..] => {
+            let options = Options::read(rest)?;
+            against::run(ours, options.seed, &options.cases, options.tally()).map_err(said)
+        }
+        ["cases", ours, rest @ ..] => {
+            let options = Options::read(rest)?;
+            cases::run(ours, &options.cases, options.tally()).map_err(said)
+        }
+        ["robust", ours, rest @ ..] => {
+            let options = Options::read(rest)?;
+            robust::run(ours, options.seed, options.tally()).map_err(said)
+        }
+        ["expose", rest @ ..] => {
+            let options = Options::read(rest)?;
+            expose::run(options.seed, options.tally()).map_err(said)
+        }
+        ["help" | "-h" | "--help"] => {
+            println!("{}", USAGE);
+            Ok(true)
+        }
         _ => Err(USAGE.to_string()),
     }
 }
 
+/// What to say of a fault. Where nobody reads the output any more, nobody
+/// needs to be told.
 fn said(fault: io::Error) -> String {
+    if fault.kind() == io::ErrorKind::BrokenPipe {
+        std::process::exit(2);
+    }
     fault.to_string()
+}
+
+/// What may follow a command that makes many checks.
+struct Options {
+    seed: u64,
+    cases: Vec<String>,
+    keep: String,
+    progress: bool,
+}
+
+impl Options {
+    fn read(words: &[&str]) -> Result<Options, String> {
+        let mut options = Options {
+            seed: 1,
+            cases: Vec::new(),
+            keep: "differences".to_string(),
+            progress: false,
+        };
+        let mut left = words;
+        while !left.is_empty() {
+            left = match left {
+                ["--progress", rest @ ..] => {
+                    options.progress = true;
+                    rest
+                }
+                ["--seed", seed, rest @ ..] => {
+                    options.seed = number(seed)?;
+                    rest
+                }
+                ["--cases", folder, rest @ ..] => {
+                    options.cases.push(folder.to_string());
+                    rest
+                }
+                ["--keep", folder, rest @ ..] => {
+                    options.keep = folder.to_string();
+                    rest
+                }
+                _ => return Err(format!("'{}' is no option, or lacks its value", left[0])),
+            };
+        }
+        Ok(options)
+    }
+
+    fn tally(&self) -> Tally {
+        Tally::new(&self.keep, self.progress)
+    }
+}
+
+fn number(word: &str) -> Result<u64, String> {
+    word.parse::<u64>()
+        .map_err(|_| format!("'{}' is no number", word))
 }
 
 fn open(file: &str) -> Result<File, String> {
@@ -129,10 +227,6 @@ fn list_mutants() -> io::Result<bool> {
 
 /// Styles take turns with the seeds where none is named.
 fn generate_trace(seed: &str, records: Option<&str>, style: Option<&str>) -> Done {
-    let number = |word: &str| {
-        word.parse::<u64>()
-            .map_err(|_| format!("'{}' is no number", word))
-    };
     let seed = number(seed)?;
     let style = match style {
         None => Style::ALL[(seed % Style::ALL.len() as u64) as usize],
@@ -166,11 +260,14 @@ fn take_census(files: &[&str]) -> Done {
         }
     }
     census.print(&mut output()).map_err(said)?;
-    let missing = census.missing();
-    for name in &missing {
-        eprintln!("never reached: {}", name);
+    let mut all = true;
+    for (name, count) in census.asked() {
+        if count == 0 {
+            eprintln!("never reached: {}", name);
+            all = false;
+        }
     }
-    Ok(missing.is_empty())
+    Ok(all)
 }
 
 fn compare_outputs(ours: &str, theirs: &str, trace: &str) -> Done {
@@ -181,7 +278,8 @@ fn compare_outputs(ours: &str, theirs: &str, trace: &str) -> Done {
         None => Ok(true),
         Some(difference) => {
             let record = compare::record_behind(open(trace)?, difference.line).map_err(said)?;
-            compare::report(&difference, &record, &mut output()).map_err(said)?;
+            let names = ("ours", "theirs");
+            compare::report(&difference, &record, names, &mut output()).map_err(said)?;
             Ok(false)
         }
     }
@@ -194,6 +292,8 @@ fn list_text(file: Option<&str>) -> Done {
 
 fn make_bytes(file: Option<&str>) -> Done {
     let lines = BufReader::new(input(file)?);
-    text::assemble(lines, &mut output()).map_err(|fault| fault.to_string())?;
+    let name = file.unwrap_or("standard input");
+    let trace = text::assemble(lines).map_err(|fault| format!("{}: {}", name, fault))?;
+    io::stdout().write_all(&trace).map_err(said)?;
     Ok(true)
 }

@@ -39,6 +39,13 @@ named_list! {
         CostLimitOneLess = "refusal 6 at a cost of exactly 2^31",
         ElapsedLimitOneLess = "refusal 10 at exactly 10^9 ns",
         PeriodLimitOneLess = "refusal 12 at E of exactly 2^33",
+        ThinOneLess = "a share of 1,023 is not thin",
+        RangeBeforeLeaf = "5 looked for before 4",
+        QueueBeforeCost = "7 looked for before 6",
+        PeriodBeforeJump = "12 looked for before 10",
+        UsageKept = "usages do not start at 0 after a plan",
+        EndForgotten = "an inactive leaf forgets its last end",
+        RemainderToLast = "remainder of a donation given to the highest-numbered",
     }
 }
 

@@ -222,10 +222,8 @@ fn bench_plans(checks: &mut Checks) -> Result<(), Refusal> {
 }
 
 fn trace_of(text: &str) -> Vec<u8> {
-    let mut trace = Vec::new();
-    // A refused text leaves a short trace, which the checks then notice.
-    let _ = assemble(text.as_bytes(), &mut trace);
-    trace
+    // A refused text leaves an empty trace, which the checks then notice.
+    assemble(text.as_bytes()).unwrap_or_default()
 }
 
 fn whole_case(checks: &mut Checks) -> io::Result<()> {
@@ -398,18 +396,48 @@ fn places(checks: &mut Checks) -> Result<(), Refusal> {
 
 /// Texts that are no trace, with the line each fault is on.
 fn text_refusals(checks: &mut Checks) -> Result<(), Refusal> {
-    let refusals = [
-        ("plan\nplans", "line 2: 'plans' is no record"),
-        ("\n# x\nvrate", "line 3: number 1 is missing"),
-        ("tick -1", "line 1: '-1' is no number of at most 64 bits"),
-        ("vrate 65536", "line 1: 65536 is too wide for its place"),
-        ("plan 1", "line 1: '1' is one word too many"),
-        ("raw 0", "line 1: raw takes pairs of hex digits"),
-        ("raw 0g", "line 1: 'g' is no hex digit"),
+    let refusals: [(&[u8], &str); 12] = [
+        (
+            b"plan\nplans",
+            "line 2: unknown word 'plans': a line begins with \
+             node, model, start, bio, tick, plan, vrate or raw",
+        ),
+        (
+            b"\n# x\nvrate",
+            "line 3: too few numbers: vrate takes 1 (vrate), here are 0",
+        ),
+        (
+            b"bio 1 0 7 0",
+            "line 1: too few numbers: bio takes 5 (node flags id sector bytes), here are 4",
+        ),
+        (
+            b"plan 1",
+            "line 1: too many numbers: plan takes none, here are 1",
+        ),
+        (b"tick -1", "line 1: time: '-1' is not a number"),
+        (b"tick +1", "line 1: time: '+1' is not a number"),
+        (
+            b"node 0 65536",
+            "line 1: weight: 65536 is too large, at most 65535",
+        ),
+        (
+            b"start 18446744073709551616",
+            "line 1: time: 18446744073709551616 is too large, at most 18446744073709551615",
+        ),
+        (
+            b"raw",
+            "line 1: too few words: raw takes pairs of hex digits",
+        ),
+        (
+            b"raw 00 0",
+            "line 1: raw takes pairs of hex digits, and '0' is odd",
+        ),
+        (b"raw 0g", "line 1: 'g' is no hex digit"),
+        (b"plan\nplan \xff", "line 2: this is no text"),
     ];
     for (text, wanted) in refusals {
-        let said = assemble(text.as_bytes(), &mut Vec::new()).map_err(|fault| fault.to_string());
-        checks.equal(text, said, Err(wanted.to_string()));
+        let said = assemble(text).map_err(|fault| fault.to_string());
+        checks.equal(wanted, said, Err(wanted.to_string()));
     }
     Ok(())
 }

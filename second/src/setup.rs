@@ -45,6 +45,48 @@ pub fn dearest_setup(random: &mut Random) -> Vec<Record> {
     assemble(nodes, rates, random)
 }
 
+/// Two leaves on the bench's model.
+pub fn few_setup() -> Vec<Record> {
+    setup_on_bench(&[(0, 100), (0, 300)])
+}
+
+/// 63 leaves right below the root.
+pub fn wide_setup(random: &mut Random) -> Vec<Record> {
+    let nodes: Nodes = (1..MAX_NODES)
+        .map(|_| (0, random.between(50, 400) as u16))
+        .collect();
+    setup_on_bench(&nodes)
+}
+
+/// A chain of 7 inner nodes with 7 leaves below each of them and below the
+/// root: 63 nodes, and 56 leaves at all 8 levels. The chain weighs more than
+/// the leaves beside it, or the tree would be thin.
+pub fn deep_setup(random: &mut Random) -> Vec<Record> {
+    let mut nodes = Nodes::new();
+    let mut parent = 0;
+    for level in 1..=MAX_LEVEL {
+        for _ in 0..7 {
+            nodes.push((parent, random.between(20, 60) as u16));
+        }
+        if level < MAX_LEVEL {
+            nodes.push((parent, 400));
+            parent = nodes.len() as u8;
+        }
+    }
+    setup_on_bench(&nodes)
+}
+
+fn setup_on_bench(nodes: &[(u8, u16)]) -> Vec<Record> {
+    let mut records = vec![Record::Model(BENCH)];
+    records.extend(
+        nodes
+            .iter()
+            .map(|&(parent, weight)| Record::Node { parent, weight }),
+    );
+    records.push(Record::Start { time: 0 });
+    records
+}
+
 /// Nodes, model and start, the model at any place before the start.
 fn assemble(nodes: Nodes, rates: Rates, random: &mut Random) -> Vec<Record> {
     let mut records: Vec<Record> = nodes

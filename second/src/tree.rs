@@ -71,7 +71,8 @@ impl Tree {
         if self.count < 2 {
             return Err(Refusal::Tree);
         }
-        if self.smallest_share(rules) < SHARE_FLOOR {
+        let least = SHARE_FLOOR - u64::from(rules.changed(Mutant::ThinOneLess));
+        if self.smallest_share(rules) < least {
             return Err(Refusal::Thin);
         }
         Ok(())
