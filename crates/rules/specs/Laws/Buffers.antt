@@ -43,6 +43,12 @@ module _ {x o₀ o : List ℕ} {at : ℕ} (d : Stands x o₀ o at) where
   pub stands-rest : length (restOf o at) ≡ length o₀ - at
   stands-rest = rw (lent-rest, length-drop)
 
+  -- what a callee wrote at the front of the rest fits there
+  pub stands-fits : (y ys : List ℕ) (r : ℕ) → Written y r (restOf o at) ys → length ys ≡ length (restOf o at) → at + r ≤ length o₀
+  stands-fits y ys r v kept =
+      let long : length y + (length (restOf o at) - length y) ≡ length (restOf o at) = rw (length-append, length-drop) at (ap length (sym (v .1)) ∙ kept) in
+      omega (arith, long, v .0, stands-rest, d .within)
+
   -- what a callee wrote at the front of the rest stands after x
   pub stands-more : (y ys : List ℕ) (r : ℕ) → Written y r (restOf o at) ys → at + r ≤ length o₀ → Stands (x ++ y) o₀ (putBack o at ys) (at + r)
   stands-more y ys r v h =
