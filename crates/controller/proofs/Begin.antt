@@ -2,12 +2,12 @@
 -- Assumes nothing.
 use mathlib.Core.Path.{_≡_, ap, _∙_}
 use Prim.Native.Nat.{ℕ}
-use native.Mathlib.Omega.{arith}
 use Rattle.rules.specs.Cost.{priced}
 use Rattle.rules.specs.Budget.{fresh}
 use Rattle.rules.specs.Refusals.{firstOf, treeChecks, rateChecks, startChecks}
 use Rattle.rules.specs.Entries.{pricing, pricingBy, treeVerdict, started, startedBy}
 use Rattle.rules.specs.Laws.Verdicts.{first-passed, first-refused}
+use Rattle.rules.specs.Laws.Bools.{never}
 use Rattle.rules.specs.declared.cost.Rates.{Rates}
 use Rattle.rules.specs.declared.cost.Model.{Model}
 use Rattle.rules.specs.declared.tree.Tree.{Tree}
@@ -15,7 +15,6 @@ use Rattle.rules.specs.declared.budget.Outcome.{Outcome}
 use Rattle.rules.specs.declared.refusals.Refusal.{Refusal}
 use Rattle.rules.specs.declared.refusals.Verdict.{Verdict}
 use Rattle.rules.specs.declared.refusals.Verdict.the-variants.{Accepted, Refused}
-use Rattle.rules.specs.declared.refusals.Pricing.{Pricing}
 use Rattle.rules.specs.declared.refusals.Pricing.the-variants.{Priced, Refused as Unpriced}
 
 module _ (t : Tree) (r : Rates) (time : ℕ) where
@@ -32,7 +31,7 @@ module _ (t : Tree) (r : Rates) (time : ℕ) where
   rates-refuse x e p = by-rates e ∙ ap (λ (v : Verdict). startedBy v t r time) (go (firstOf (rateChecks r)) p)
     where
       go : (v : Verdict) → pricingBy v r ≡ Unpriced x → v ≡ Refused x
-      go Accepted q = let z : _≡_ {A = ℕ} 0 1 = cc in absurd (omega arith)
+      go Accepted q = never (cc)
       go (Refused y) q = let same : y ≡ x = cc in ap Refused same
 
   pub start-accepts : (m : Model) → treeVerdict t ≡ Accepted → pricing r ≡ Priced m
@@ -42,4 +41,4 @@ module _ (t : Tree) (r : Rates) (time : ℕ) where
     where
       go : (v : Verdict) → pricingBy v r ≡ Priced m → startedBy v t r time ≡ record { answer = Accepted; state = fresh t m time }
       go Accepted q = let same : priced r ≡ m = cc in ap {B = Outcome} (λ (x : Model). record { answer = Accepted; state = fresh t x time }) same
-      go (Refused y) q = let z : _≡_ {A = ℕ} 0 1 = cc in absurd (omega arith)
+      go (Refused y) q = never (cc)

@@ -45,7 +45,7 @@ pub fn plan_row(quiet: bool, stay: bool, row: Row) -> Row
     let mut planned = rested(stay, forgiven(quiet, row));
     let usage = Abs(0);
     planned.usage = usage;
-    planned.asked = false;
+    planned.accepted = false;
     planned
 }
 
@@ -53,7 +53,7 @@ pub fn plan_row(quiet: bool, stay: bool, row: Row) -> Row
 pub fn stays(row: Row, waiting: u8) -> bool
     ensures { λ r. ⌜ r ≡ staysWith row waiting ⌝ }
 {
-    if row.asked {
+    if row.accepted {
         return true;
     }
     if 0 < waiting {

@@ -1,7 +1,7 @@
 // A leaf's own books: whether it owes, whether a cost fits its budget, and what charging, debt and noting a bio leave.
 ghost use mathlib.Core.Path.{_≡_};
-ghost use Prim.Native.Nat.{_*_, _^_, _<_};
-ghost use Rattle.rules.specs.Budget.{withBudget, withDebt, charged as chargedOf, owes as owesOf, fits as fitsOf, rebudget as rebudgetOf};
+ghost use Prim.Native.Nat.{_<_};
+ghost use Rattle.rules.specs.Budget.{withBudget, withDebt, charged as chargedOf, owes as owesOf, fits as fitsOf};
 ghost use Rattle.leaf.specs.Fit.{Priced, Payable};
 ghost use Rattle.leaf.specs.Alone.{notedAt};
 use rules::budget::Row;
@@ -56,15 +56,6 @@ pub fn noted(end: u64, mut row: Row) -> Row
 {
     row.end = end;
     row.begun = true;
-    row.asked = true;
+    row.accepted = true;
     row
-}
-
-// "Whenever a share rises from h to k, .."
-pub fn rebudgeted(h: u64, k: u64, row: Row) -> Row
-    requires { ⌜ row .budget .0 * h < 2 ^ 64 ⌝ }
-    ensures { λ r. ⌜ r ≡ withBudget (rebudgetOf h k (row .budget)) row ⌝ }
-{
-    let budget = row.budget;
-    with_budget(units::rebudget(h, k, budget), row)
 }

@@ -3,7 +3,7 @@ ghost use mathlib.Core.Path.{_≡_};
 ghost use Prim.Native.Nat.{_≤_};
 ghost use Rattle.rules.specs.Numbers.{vtimeMost};
 ghost use Rattle.rules.specs.Invariant.{Sound};
-ghost use Rattle.limits.specs.Aged.{withVtime};
+ghost use Rattle.rules.specs.Bench.{aged as agedTo};
 use crate::calls;
 use rules::budget::Controller;
 use rules::cost::Rates;
@@ -42,7 +42,7 @@ pub fn fresh() -> Controller
 // The same state at another virtual time, which may be any up to the limit.
 pub fn aged(mut c: Controller, vtime: u64) -> Controller
     requires { ⌜ Sound c × (vtime ≤ vtimeMost) ⌝ }
-    ensures { λ r. ⌜ (r ≡ withVtime vtime c) × Sound r ⌝ }
+    ensures { λ r. ⌜ (r ≡ agedTo vtime c) × Sound r ⌝ }
 {
     let mut clock = c.clock;
     let vtime = Virt(vtime);

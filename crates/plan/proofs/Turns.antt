@@ -21,7 +21,7 @@ use Rattle.rules.specs.Plan.{usedShare, targetOf}
 use Rattle.rules.specs.Laws.Bools.{and-not-right, or-right, or-neither}
 use Rattle.rules.specs.Laws.Sets.{set-small, set-cong, set-back, set-ext, has-set, has-past, has-setOf}
 use Rattle.rules.specs.Laws.Units.{ceil-least}
-use Rattle.leaf.specs.Alone.{some}
+use Rattle.leaf.specs.Alone.{counted}
 use Rattle.rules.specs.declared.units.Abs.{Abs}
 use Rattle.rules.specs.declared.units.Virt.{Virt}
 use Rattle.rules.specs.declared.budget.Queue.{Queue}
@@ -114,7 +114,7 @@ module _ (active : ℕ) (p : ℕ → Bool) where
             rw (ne-eqb k n (λ z. omega arith), le-leb n k (omega arith), le-leb (n + 1) k (omega arith)) (and-true (has active k && true)))
 
 -- no bio waits past the last queue, whatever else stands there
-pub waiting-at : (queues : List Queue) (n : ℕ) → getD queues n (some 0) .len ≡ getD queues n emptyQueue .len
+pub waiting-at : (queues : List Queue) (n : ℕ) → getD queues n (counted 0) .len ≡ getD queues n emptyQueue .len
 waiting-at [] n = refl
 waiting-at (q ∷ queues) zero = refl
 waiting-at (q ∷ queues) (suc n) = waiting-at queues n

@@ -9,18 +9,17 @@ use lib.Dec.{eqb}
 use lib.ListN.{getD, replicate, take}
 use Rattle.rules.specs.Demand3.Ledger.{Call, after}
 use Rattle.rules.specs.Numbers.{nodesMost}
-use Rattle.rules.specs.Words.{sumTo, anyTo, joinTo, tableFrom, has, setTo, setOf, none}
+use Rattle.rules.specs.Words.{sumTo, anyTo, joinTo, tableFrom, has, setTo, noNode}
 use Rattle.rules.specs.Units.{abs, virt, CEIL, relative, repayable, atWhole}
 use Rattle.rules.specs.Cost.{bpsInRange, iopsInRange, ratesInRange, pageCost, baseCost, priceOf, priced, bytesInRange, sectorInRange, flagsInRange, bioInRange, isWrite, isForced, isNear, isSequential, endOf, costAt, costOf}
 use Rattle.rules.specs.Tree.{parent, weight, last, levelIn, level, countInRange, weightInRange, nodeFault, faultTo, treeFault, newestFault, isLeaf, leavesOf, onWayIn, onWay, isActive, childSum, shareIn, shareOf, baseShare, baseShares, isThin}
-use Rattle.rules.specs.Budget.{emptyQueue, emptyRow, fresh, rowAt, queueAt, shareAt, withClock, putLeaf, withBudget, rebudget, reshared, rebased, activated, entered, answerTo, rowAfter, queueAfter, endsDonation, answerIn, applied, settled, submission}
+use Rattle.rules.specs.Budget.{emptyQueue, emptyRow, fresh, rowAt, queueAt, shareAt, withClock, putLeaf, withBudget, rebudget, reshared, rebased, activated, entered, answerTo, rowAfter, queueAfter, endsDonation, answerIn, applied, settled, submission, wouldBe}
 use Rattle.rules.specs.Tick.{growth, advanced, repayment, repaid, releaseIn, released, capped, turn, turnOf, releases, lentAfter, tick, waitingAll}
 use Rattle.rules.specs.Plan.{usageAll, isQuiet, forgiveness, usedShare, targetOf, isDonor, isTaker, isDonation, sumOver, takenOf, isLowest, remainder, shareGiven, donated, quietIn, activeAfter, targetsIn, donorsIn, closed, shared, plan, vrateInRange}
-use Rattle.rules.specs.Refusals.{Check, firstOf, isFault, verdictNumber, readNumber, writeNumber, wouldBe, treeChecks, nodeChecks, rateChecks, startChecks, costChecks, roomChecks, submitChecks, tickChecks, planChecks, vrateChecks}
+use Rattle.rules.specs.Refusals.{Check, firstOf, isFault, verdictNumber, readNumber, writeNumber, treeChecks, nodeChecks, rateChecks, startChecks, costChecks, roomChecks, submitChecks, tickChecks, planChecks, vrateChecks}
 use Rattle.rules.specs.Entries.{treeVerdict, costing, costingBy, started, startedBy, submitted, submittedBy, ticked, tickedBy, lentBy, lentOf, planned, plannedBy, vrated, vratedBy}
 use Rattle.rules.specs.Trace.{bytesOf, numberOf, isKind, layout, kindOf, fieldsOf, recordOf, bodyOf, recordBytes, writing, fieldsFrom, behind, readKind, readAt}
 use Rattle.rules.specs.Replay.{digits, digitsIn, line, refusalLine, answerLine, tickLines, shareLines, planLines, verdictLines, inPhase, beginning, nodeStep, modelStep, startStep, recordStep, readStep, nextPlace, stepped, replayFrom, replay}
-use Rattle.rules.specs.declared.units.Abs.{Abs}
 use Rattle.rules.specs.declared.cost.Rates.{Rates}
 use Rattle.rules.specs.declared.cost.Price.{Price}
 use Rattle.rules.specs.declared.cost.Model.{Model}
@@ -77,7 +76,7 @@ bio node flags bytes = record { node = node; flags = flags; id = 7; sector = 0; 
 
 -- a leaf whose last bio ended at sector 0
 abbrev atZero : Row
-atZero = record { budget = virt 0; debt = abs 0; usage = abs 0; end = 0; begun = true; asked = true }
+atZero = record { budget = virt 0; debt = abs 0; usage = abs 0; end = 0; begun = true; accepted = true }
 
 abbrev costNumber : Costing → ℕ
 costNumber (Costs cost) = cost .0
@@ -110,17 +109,17 @@ running t rows since =
       clock = record { time = 0; vtime = virt since; since = virt since; vrate = 100 };
       leaves = leavesOf t;
       active = leavesOf t;
-      donors = none;
+      donors = noNode;
       shares = baseShares t (leavesOf t);
       rows = emptyRow ∷ rows;
       queues = c .queues;
     }
 
 abbrev saved : ℕ → Row
-saved b = record { budget = virt b; debt = abs 0; usage = abs 0; end = 0; begun = false; asked = true }
+saved b = record { budget = virt b; debt = abs 0; usage = abs 0; end = 0; begun = false; accepted = true }
 
 abbrev used : ℕ → Row
-used u = record { budget = virt 0; debt = abs 0; usage = abs u; end = 0; begun = true; asked = true }
+used u = record { budget = virt 0; debt = abs 0; usage = abs u; end = 0; begun = true; accepted = true }
 
 -- ---- B9: leaf 1 of B5's tree, whose random read of 4,096 bytes costs 100,000
 abbrev state9 : ℕ → Controller
@@ -218,7 +217,7 @@ dear cost =
     record { read = price; write = price }
 
 abbrev owing : ℕ → Row
-owing d = record { budget = virt 0; debt = abs d; usage = abs 0; end = 0; begun = true; asked = true }
+owing d = record { budget = virt 0; debt = abs d; usage = abs 0; end = 0; begun = true; accepted = true }
 
 abbrev holding : ℕ → Queue
 holding n = record { ids = emptyQueue .ids; costs = emptyQueue .costs; head = 0; len = n }
@@ -232,8 +231,8 @@ clocked vtime since n =
       model = M;
       clock = record { time = 0; vtime = virt vtime; since = virt since; vrate = 100 };
       leaves = c .leaves;
-      active = none;
-      donors = none;
+      active = noNode;
+      donors = noNode;
       shares = c .shares;
       rows = c .rows;
       queues = emptyQueue ∷ holding n ∷ [];
@@ -299,10 +298,10 @@ edges =
     ∷ is (isQuiet (abs 49) (virt 100)) ∷ isNot (isQuiet (abs 50) (virt 100))
     ∷ B 0 (letter (submitted (bio 1 0 4096) (behind9 400000) .answer)) 87
     ∷ B 0 (letter (submitted (bio 1 2 4096) (behind9 400000) .answer)) 73
-    ∷ B 0 (rowAt waits9 1 .end) 8 ∷ is (rowAt waits9 1 .begun) ∷ is (rowAt waits9 1 .asked)
+    ∷ B 0 (rowAt waits9 1 .end) 8 ∷ is (rowAt waits9 1 .begun) ∷ is (rowAt waits9 1 .accepted)
     ∷ B 0 (growth (rated 50) 3 .0) 1 ∷ B 0 (growth (rated 400) 3 .0) 12 ∷ B 0 (vrated 50 (clocked 0 0 0) .state .clock .vrate) 50
     ∷ B 0 (later .clock .time) 250 ∷ B 0 (later .clock .vtime .0) 250 ∷ B 0 (later .clock .since .0) 250
-    ∷ B 0 (plan10 .clock .since .0) 0 ∷ B 0 (rowAt plan10 1 .usage .0) 0 ∷ isNot (rowAt plan10 1 .asked)
+    ∷ B 0 (plan10 .clock .since .0) 0 ∷ B 0 (rowAt plan10 1 .usage .0) 0 ∷ isNot (rowAt plan10 1 .accepted)
     ∷ B 0 (targetOf (virt 100) (abs 1000)) 1342177280
     ∷ B 0 (costNumber (costing M atZero (bio 1 1 4096))) 40000
     ∷ isNot (isFault (treeFault (tree 2 (0 ∷ []) (1 ∷ [])))) ∷ is (isFault (treeFault (tree 2 (1 ∷ []) (1 ∷ []))))

@@ -1,12 +1,12 @@
 -- Budget and submission.
 -- Assumes nothing.
 use mathlib.Core.Bool.{Bool, true, false, cond, not, _&&_, _||_}
-use mathlib.Core.List.{List, [], _∷_}
+use mathlib.Core.List.{List}
 use Prim.Native.Nat.{ℕ, _+_, _-_, _*_, _%_}
 use lib.Dec.{eqb, leb, ltb}
 use lib.ListN.{getD, set, replicate}
 use Rattle.rules.specs.Numbers.{queueRoom, nodesMost, vrateFresh}
-use Rattle.rules.specs.Words.{table, has, setOf, none}
+use Rattle.rules.specs.Words.{table, has, setOf, noNode}
 use Rattle.rules.specs.Units.{abs, virt, FLOOR, relative}
 use Rattle.rules.specs.Cost.{costOf, endOf, isForced}
 use Rattle.rules.specs.Tree.{leavesOf, baseShares}
@@ -28,7 +28,7 @@ abbrev pub emptyQueue : Queue
 emptyQueue = record { ids = replicate queueRoom 0; costs = replicate queueRoom (abs 0); head = 0; len = 0 }
 
 abbrev pub emptyRow : Row
-emptyRow = record { budget = virt 0; debt = abs 0; usage = abs 0; end = 0; begun = false; asked = false }
+emptyRow = record { budget = virt 0; debt = abs 0; usage = abs 0; end = 0; begun = false; accepted = false }
 
 abbrev pub freshClock : ℕ → Clock
 freshClock time = record { time = time; vtime = virt 0; since = virt 0; vrate = vrateFresh }
@@ -40,8 +40,8 @@ freshWith leaves tree model time = record {
   model = model;
   clock = freshClock time;
   leaves = leaves;
-  active = none;
-  donors = none;
+  active = noNode;
+  donors = noNode;
   shares = replicate nodesMost 0;
   rows = replicate nodesMost emptyRow;
   queues = replicate nodesMost emptyQueue;
@@ -107,15 +107,15 @@ oldestCost q = getD (q .costs) (q .head) (abs 0)
 -- ---- a leaf's own books
 abbrev pub withBudget : Virt → Row → Row
 withBudget b r =
-    record { budget = b; debt = r .debt; usage = r .usage; end = r .end; begun = r .begun; asked = r .asked }
+    record { budget = b; debt = r .debt; usage = r .usage; end = r .end; begun = r .begun; accepted = r .accepted }
 
 abbrev pub withDebt : Abs → Row → Row
 withDebt d r =
-    record { budget = r .budget; debt = d; usage = r .usage; end = r .end; begun = r .begun; asked = r .asked }
+    record { budget = r .budget; debt = d; usage = r .usage; end = r .end; begun = r .begun; accepted = r .accepted }
 
 abbrev pub withUsage : Abs → Row → Row
 withUsage u r =
-    record { budget = r .budget; debt = r .debt; usage = u; end = r .end; begun = r .begun; asked = r .asked }
+    record { budget = r .budget; debt = r .debt; usage = u; end = r .end; begun = r .begun; accepted = r .accepted }
 
 -- the budget falls: only virtual time is taken from it
 abbrev pub spent : Virt → Row → Row
@@ -128,7 +128,7 @@ charged cost share r = withUsage (abs (r .usage .0 + cost .0)) (spent (relative 
 -- an accepted bio moves the leaf's end and is its first, if it had none (DECISIONS 9)
 abbrev pub noted : Bio → Row → Row
 noted b r =
-    record { budget = r .budget; debt = r .debt; usage = r .usage; end = endOf b; begun = true; asked = true }
+    record { budget = r .budget; debt = r .debt; usage = r .usage; end = endOf b; begun = true; accepted = true }
 
 abbrev pub owes : Row → Bool
 owes r = ltb 0 (r .debt .0)
@@ -159,7 +159,7 @@ reshared active donors shares c = record {
 
 -- a donation ends and base shares are worked out anew: no donor, and base shares among the active leaves
 unfoldable pub rebased : ℕ → Controller → Controller
-rebased active c = reshared active none (baseShares (c .tree) active) c
+rebased active c = reshared active noNode (baseShares (c .tree) active) c
 
 -- ---- "Submitting a bio that is not refused:"
 -- "1. An inactive leaf becomes active .."
@@ -212,7 +212,9 @@ unfoldable pub settled : Answer → Bio → Controller → Controller
 settled answer b c =
     cond (endsDonation answer && has (c .donors) (b .node)) (rebased (c .active) (applied answer b c)) (applied answer b c)
 
+-- what steps 2 and 3 answer a bio, once its leaf is active (DECISIONS 14)
+unfoldable pub wouldBe : Controller → Bio → Answer
+wouldBe c b = answerIn (entered (b .node) c) b
+
 unfoldable pub submission : Bio → Controller → Submitted
-submission b c =
-    let after : Controller = entered (b .node) c in
-    record { answer = answerIn after b; state = settled (answerIn after b) b after }
+submission b c = record { answer = wouldBe c b; state = settled (wouldBe c b) b (entered (b .node) c) }

@@ -1,6 +1,6 @@
 -- Cost of a bio.
 -- Assumes nothing.
-use mathlib.Core.Bool.{Bool, true, false, cond, _&&_}
+use mathlib.Core.Bool.{Bool, cond, _&&_}
 use Prim.Native.Nat.{ℕ, _+_, _-_, _*_, _/_, _%_}
 use lib.Dec.{eqb, leb, ltb}
 use Rattle.rules.specs.Numbers.{bpsLeast, bpsMost, iopsLeast, iopsMost, second, pageBytes, sectorBytes, bytesMost, sectorMost, nearMost}

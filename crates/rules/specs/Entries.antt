@@ -1,7 +1,6 @@
 -- What each entry answers, and the state that it leaves: a refusal, with nothing changed, or the rule of its section.
 -- Assumes nothing.
-use mathlib.Core.Bool.{true, false}
-use mathlib.Core.List.{List, [], _∷_}
+use mathlib.Core.List.{List}
 use Prim.Native.Nat.{ℕ}
 use lib.ListN.{length, replicate}
 use Rattle.rules.specs.Numbers.{nodesMost, bpsLeast, iopsLeast}

@@ -5,7 +5,7 @@ use mathlib.Core.Bool.{true, false}
 use Prim.Native.Nat.{ℕ, _+_, _*_, _^_, _≤_, _<_}
 use lib.ListN.{length, getD}
 use Rattle.rules.specs.Numbers.{WHOLE, nodesMost, leafMost, queueRoom, shareFloor, costMost, debtMost, vtimeMost, sinceMost, vrateLeast, vrateMost, endMost}
-use Rattle.rules.specs.Words.{sumTo, has, none}
+use Rattle.rules.specs.Words.{sumTo, has, noNode}
 use Rattle.rules.specs.Units.{abs}
 use Rattle.rules.specs.Cost.{ratesInRange, priced}
 use Rattle.rules.specs.Tree.{parent, last, leavesOf, baseShare, baseShares, isThin}
@@ -77,7 +77,7 @@ pub record Sound (c : Controller) : Type 0 where
   pub share-idle : (n : ℕ) → has (c .active) n ≡ false → shareAt c n ≡ 0
   pub share-sum : sumTo (shareAt c) leafMost ≡ sumTo (baseShare (c .tree) (c .active)) leafMost
   pub taker : (n : ℕ) → has (c .active) n ≡ true → has (c .donors) n ≡ false → baseShare (c .tree) (c .active) n ≤ shareAt c n
-  pub no-donation : c .donors ≡ none → c .shares ≡ baseShares (c .tree) (c .active)
+  pub no-donation : c .donors ≡ noNode → c .shares ≡ baseShares (c .tree) (c .active)
   -- the books of the leaves
   pub rows-all : length (c .rows) ≡ nodesMost
   pub queues-all : length (c .queues) ≡ nodesMost

@@ -29,5 +29,6 @@ pub mod Buffers
 pub mod Lines
 pub mod Replays
 pub mod Chunks
+pub mod Pieces
 pub mod Cuts
 pub mod Runs

@@ -1,12 +1,12 @@
 -- Plan, and vrate.
 -- Assumes nothing.
-use mathlib.Core.Bool.{Bool, true, false, cond, not, _&&_, _||_}
+use mathlib.Core.Bool.{Bool, false, cond, not, _&&_, _||_}
 use mathlib.Core.List.{List}
 use Prim.Native.Nat.{ℕ, _+_, _-_, _*_, min, max}
 use lib.Dec.{leb, ltb}
 use lib.ListN.{getD}
 use Rattle.rules.specs.Numbers.{WHOLE, leafMost, shareFloor, vrateLeast, vrateMost}
-use Rattle.rules.specs.Words.{sumTo, anyTo, table, has, setOf, none}
+use Rattle.rules.specs.Words.{sumTo, anyTo, table, has, setOf, noNode}
 use Rattle.rules.specs.Units.{abs, virt, CEIL, FLOOR, atWhole}
 use Rattle.rules.specs.Tree.{baseShares}
 use Rattle.rules.specs.Budget.{rowAt, queueAt, withClock, owes, waits, withBudget, withDebt, reshared}
@@ -32,7 +32,7 @@ forgiven quiet r = withDebt (abs (r .debt .0 - forgiveness quiet (r .debt) .0)) 
 
 -- ---- "2. A leaf with no accepted bio .." (DECISIONS 10)
 abbrev pub stays : Row → Queue → Bool
-stays r q = r .asked || waits q || owes r
+stays r q = r .accepted || waits q || owes r
 
 abbrev pub rested : Bool → Row → Row
 rested stay r = cond stay r (withBudget (virt 0) r)
@@ -96,7 +96,7 @@ restarted r = record {
   usage = abs 0;
   end = r .end;
   begun = r .begun;
-  asked = false;
+  accepted = false;
 }
 
 abbrev pub restartedClock : Clock → Clock
@@ -134,7 +134,7 @@ unfoldable pub shared : ℕ → ℕ → List ℕ → List ℕ → Controller →
 shared active donors bases targets c =
     cond (isDonation active donors)
     (reshared active donors (donated active donors bases targets) c)
-    (reshared active none bases c)
+    (reshared active noNode bases c)
 
 unfoldable pub plan : Controller → Controller
 plan c =

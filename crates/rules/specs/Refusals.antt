@@ -1,13 +1,13 @@
 -- Refusal numbers: the number of each, and for each entry what it checks, in the table's order.
 -- Assumes nothing.
-use mathlib.Core.Bool.{Bool, true, false, cond, not, _&&_, _||_}
+use mathlib.Core.Bool.{Bool, true, false, cond, not, _&&_}
 use mathlib.Core.List.{List, [], _∷_, _++_}
 use Prim.Native.Nat.{ℕ, _+_}
 use lib.Dec.{eqb, leb, ltb}
 use Rattle.rules.specs.Numbers.{costMost, queueRoom, debtMost, elapsedMost, vtimeMost, sinceMost}
 use Rattle.rules.specs.Cost.{ratesInRange, bioInRange, costOf}
 use Rattle.rules.specs.Tree.{treeFault, newestFault, isThin, isLeaf}
-use Rattle.rules.specs.Budget.{rowAt, queueAt, entered, answerIn}
+use Rattle.rules.specs.Budget.{rowAt, queueAt, wouldBe}
 use Rattle.rules.specs.Tick.{growth, waitingAll}
 use Rattle.rules.specs.Plan.{vrateInRange}
 use Rattle.rules.specs.declared.units.Abs.{Abs}
@@ -128,10 +128,6 @@ isDebt Issued = false
 isDebt Waits = false
 isDebt OnDebt = true
 isDebt (Declined x) = false
-
--- what steps 2 and 3 would answer a bio (DECISIONS 14)
-unfoldable pub wouldBe : Controller → Bio → Answer
-wouldBe c b = answerIn (entered (b .node) c) b
 
 -- ---- the checks of each entry
 unfoldable pub treeChecks : Tree → List Check

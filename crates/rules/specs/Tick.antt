@@ -1,13 +1,13 @@
 -- Tick.
 -- Assumes nothing.
-use mathlib.Core.Bool.{Bool, true, false, cond, not, _&&_}
+use mathlib.Core.Bool.{cond, not, _&&_}
 use mathlib.Core.List.{List, [], _∷_, _++_}
 use Prim.Native.Nat.{ℕ, zero, suc, _+_, _-_, _*_, min}
 use lib.Dec.{ltb}
 use lib.ListN.{length, drop}
 use Rattle.rules.specs.Numbers.{leafMost, idleCap}
 use Rattle.rules.specs.Words.{sumTo, joinTo, table, has}
-use Rattle.rules.specs.Units.{abs, virt, FLOOR, relative, repayable}
+use Rattle.rules.specs.Units.{abs, virt, FLOOR, repayable}
 use Rattle.rules.specs.Budget.{rowAt, queueAt, shareAt, popped, oldestId, oldestCost, withBudget, withDebt, charged, owes, waits, fits}
 use Rattle.rules.specs.declared.units.Abs.{Abs}
 use Rattle.rules.specs.declared.units.Virt.{Virt}

@@ -1,13 +1,10 @@
 -- Trace records: one layout, by which records are read and written.
 -- Assumes nothing.
-use mathlib.Core.Bool.{Bool, true, false, cond, not, _&&_}
+use mathlib.Core.Bool.{Bool, cond, not, _&&_}
 use mathlib.Core.List.{List, [], _∷_, _++_}
 use Prim.Native.Nat.{ℕ, zero, suc, _+_, _-_, _*_, _/_, _%_, _^_, _<_}
 use lib.Dec.{eqb, leb, ltb}
 use lib.ListN.{length, getD, take, drop}
-use Rattle.rules.specs.Cost.{ratesInRange, bioInRange}
-use Rattle.rules.specs.Tree.{weightInRange}
-use Rattle.rules.specs.Plan.{vrateInRange}
 use Rattle.rules.specs.declared.cost.Rates.{Rates}
 use Rattle.rules.specs.declared.cost.Bio.{Bio}
 use Rattle.rules.specs.declared.refusals.Refusal.the-variants.{UnknownKind, CutShort, ShortBuffer}
@@ -97,16 +94,6 @@ recordOf kind fs =
     (cond (eqb kind 4) (BioOf (bioOf fs))
     (cond (eqb kind 5) (Tick (getD fs 0 0))
     (cond (eqb kind 6) Plan (Vrate (getD fs 0 0)))))))
-
--- each field that document 01 limits by itself
-unfoldable pub recordInRange : Record → Bool
-recordInRange (Node p w) = weightInRange w
-recordInRange (Model r) = ratesInRange r
-recordInRange (Start t) = true
-recordInRange (BioOf b) = bioInRange b
-recordInRange (Tick t) = true
-recordInRange Plan = true
-recordInRange (Vrate v) = vrateInRange v
 
 -- ---- written
 unfoldable pub bodyOf : List ℕ → List ℕ → List ℕ

@@ -1,6 +1,6 @@
 -- Tree and base shares.
 -- Assumes nothing.
-use mathlib.Core.Bool.{Bool, true, false, cond, not, _&&_, _||_}
+use mathlib.Core.Bool.{Bool, cond, not, _&&_, _||_}
 use mathlib.Core.List.{List}
 use Prim.Native.Nat.{ℕ, zero, suc, _-_, _*_}
 use lib.Dec.{eqb, leb, ltb}
@@ -47,17 +47,17 @@ nodeFault t n =
     cond (leb n (parent t n)) (Parent n)
     (cond (not (weightInRange (weight t n))) (Weight n) (cond (ltb levelMost (level t n)) (Level n) Sound))
 
-abbrev pub orElse : Fault → Fault → Fault
-orElse Sound g = g
-orElse Count g = Count
-orElse (Parent n) g = Parent n
-orElse (Weight n) g = Weight n
-orElse (Level n) g = Level n
+abbrev pub firstFault : Fault → Fault → Fault
+firstFault Sound g = g
+firstFault Count g = Count
+firstFault (Parent n) g = Parent n
+firstFault (Weight n) g = Weight n
+firstFault (Level n) g = Level n
 
 -- the first fault of the nodes 1 to m
 unfoldable pub faultTo : Tree → ℕ → Fault
 faultTo t zero = Sound
-faultTo t (suc m) = orElse (faultTo t m) (nodeFault t (suc m))
+faultTo t (suc m) = firstFault (faultTo t m) (nodeFault t (suc m))
 
 unfoldable pub treeFault : Tree → Fault
 treeFault t = cond (countInRange (t .count)) (faultTo t (last t)) Count

@@ -1,6 +1,6 @@
 -- Words that the rules are written in: sums and tables over the nodes, and sets of nodes kept as bits of one number.
 -- Assumes nothing.
-use mathlib.Core.Bool.{Bool, true, false, cond, _||_}
+use mathlib.Core.Bool.{Bool, false, cond, _||_}
 use mathlib.Core.List.{List, [], _∷_, _++_}
 use Prim.Native.Nat.{ℕ, zero, suc, _+_, _/_, _%_, _^_}
 use lib.Dec.{eqb}
@@ -44,5 +44,5 @@ abbrev pub setOf : (ℕ → Bool) → ℕ
 setOf p = setTo p nodesMost
 
 -- nobody
-abbrev pub none : ℕ
-none = 0
+abbrev pub noNode : ℕ
+noNode = 0

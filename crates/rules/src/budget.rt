@@ -18,7 +18,7 @@ pub struct Queue {
     pub len: u8,
 }
 
-// The books of one leaf. `end` is where its last accepted bio ended, if `begun` says that there was one; `asked` says
+// The books of one leaf. `end` is where its last accepted bio ended, if `begun` says that there was one; `accepted` says
 // whether a bio was accepted since the last plan; `usage` is what it was charged since then.
 pub struct Row {
     pub budget: Virt,
@@ -26,7 +26,7 @@ pub struct Row {
     pub usage: Abs,
     pub end: u64,
     pub begun: bool,
-    pub asked: bool,
+    pub accepted: bool,
 }
 
 // The last accepted time, virtual time, E (virtual time since the last plan) and vrate.
@@ -89,7 +89,7 @@ impl Row {
             usage: Abs(0),
             end: 0,
             begun: false,
-            asked: false,
+            accepted: false,
         }
     }
 }

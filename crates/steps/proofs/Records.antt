@@ -3,21 +3,19 @@
 use mathlib.Core.Path.{_≡_, refl, sym, ap, _∙_}
 use mathlib.Core.Bool.{Bool, true, false, _&&_}
 use mathlib.Core.List.{List}
-use Prim.Native.Nat.{ℕ, zero, suc, _+_, _-_, _≤_, _<_}
+use Prim.Native.Nat.{ℕ, _+_, _≤_, _<_}
 use native.Mathlib.Omega.{arith}
 use lib.Dec.{leb, ltb}
-use lib.ListN.{length, getD}
-use lib.Seq.{getD-set-other}
+use lib.ListN.{length}
 use borrow.Author.Tests.{lt-leb, lt-ltb, le-ltb}
 use Rattle.rules.specs.Numbers.{nodesMost, lineRoom}
-use Rattle.rules.specs.Tree.{parent, last, newestFault}
+use Rattle.rules.specs.Tree.{newestFault}
 use Rattle.rules.specs.Refusals.{isFault, firstOf, nodeChecks, rateChecks}
 use Rattle.rules.specs.Entries.{pricing, pricingBy, started}
 use Rattle.rules.specs.Trace.{kindOf}
 use Rattle.rules.specs.Replay.{Step, within, stopsAt, silent, grown, inPhase, isStopped}
 use Rattle.rules.specs.Replay.{nodeStep, modelStep, startStep, recordStep, readStep, stepped}
 use Rattle.rules.specs.Chunks.{callOf, isCall, isRunning, runs, stepping, steppedTo}
-use Rattle.rules.specs.Invariant.{Playing}
 use Rattle.rules.specs.Laws.Bools.{true-not-false}
 use Rattle.rules.specs.declared.cost.Rates.{Rates}
 use Rattle.rules.specs.declared.cost.Bio.{Bio}
@@ -42,7 +40,6 @@ use Rattle.rules.specs.declared.replay.Replay.{Replay}
 use Rattle.rules.specs.declared.replay.Printed.{Printed}
 use Rattle.rules.specs.declared.replay.Printed.the-variants.{Bytes, Short}
 use Rattle.rules.specs.declared.replay.Stepped.{Stepped}
-use Rattle.tree.specs.View.{Climbs}
 use Rattle.steps.specs.Went.{Does}
 
 -- ---- a step that is known

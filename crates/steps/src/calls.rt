@@ -2,7 +2,7 @@
 // answer; a refused one changes nothing, and the replay goes on. The state goes from call to call in one function,
 // since each function that it is handed through copies it.
 ghost use mathlib.Core.Path.{_≡_};
-ghost use Prim.Native.Nat.{_*_, _≤_};
+ghost use Prim.Native.Nat.{_≤_};
 ghost use lib.ListN.{length};
 ghost use Rattle.rules.specs.Numbers.{lineRoom};
 ghost use Rattle.rules.specs.Replay.{tickLines, nextPlace};

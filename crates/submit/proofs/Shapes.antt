@@ -2,26 +2,30 @@
 -- Assumes nothing.
 use mathlib.Core.Path.{_≡_, refl, sym, ap, _∙_}
 use mathlib.Core.Bool.{Bool, true, false, cond, _&&_}
-use mathlib.Core.List.{List, [], _∷_, _++_}
 use Prim.Native.Nat.{ℕ, _+_, _*_, _≤_, _<_}
 use native.Mathlib.Nat.{mul-le-mul, le-trans}
 use native.Mathlib.Omega.{arith}
 use borrow.Author.Tests.{le-leb, lt-leb, lt-ltb, le-ltb, leb-false}
 use lib.Dec.{leb}
-use lib.ListN.{length, getD}
-use lib.Seq.{getD-set-same, set-getD}
+use lib.ListN.{getD}
+use lib.Seq.{set-getD}
 use Rattle.rules.specs.Numbers.{nodesMost, queueRoom, costMost, debtMost}
 use Rattle.rules.specs.Words.{has}
 use Rattle.rules.specs.Cost.{endOf, isForced, bioInRange}
 use Rattle.rules.specs.Tree.{isLeaf}
-use Rattle.rules.specs.Budget.{emptyRow, emptyQueue, rowAt, queueAt, shareAt, putLeaf, rebased, reshared, entered, answerTo, rowAfter, queueAfter, endsDonation, answerIn, applied, settled, submission}
-use Rattle.rules.specs.Refusals.{Check, firstOf, wouldBe, costChecks, roomChecks, submitChecks}
+use Rattle.rules.specs.Budget.{emptyRow, emptyQueue, rowAt, queueAt, shareAt, putLeaf, rebased, reshared, entered, answerTo, rowAfter, queueAfter, endsDonation, answerIn, applied, settled, submission, wouldBe}
+use Rattle.rules.specs.Refusals.{firstOf, costChecks, roomChecks, submitChecks}
 use Rattle.rules.specs.Entries.{costing, costingBy, submittedBy, submitted}
 use Rattle.rules.specs.Invariant.{worthMost, Sound}
 use Rattle.rules.specs.Laws.Costs.{SoundModel, priced-sound, bio-in-range, costing-costs-exactly-when}
 use Rattle.rules.specs.Laws.Trees.{SoundTree, Within, leaf-last, last-most, leaves-are}
 use Rattle.rules.specs.Laws.Resharing.{Reweighed, active-node, activeWith, activated-is, entering-keeps, entering-reweighs, entered-is-active}
 use Rattle.rules.specs.Laws.Submits.{costIn, put-each, reweighed-debt, reweighed-queue, reweighed-cost}
+use Rattle.rules.specs.Laws.Bools.{never}
+use Rattle.rules.specs.Laws.Tables.{getD-inside}
+use Rattle.rules.specs.Laws.Verdicts.{first-refused}
+use Rattle.rules.specs.Laws.Answers.{issued-fits}
+use Rattle.rules.specs.Laws.Decisions.{entered-active}
 use Rattle.rules.specs.declared.units.Abs.{Abs}
 use Rattle.rules.specs.declared.cost.Bio.{Bio}
 use Rattle.rules.specs.declared.cost.Model.{Model}
@@ -38,49 +42,49 @@ use Rattle.rules.specs.declared.refusals.Costing.{Costing}
 use Rattle.rules.specs.declared.refusals.Costing.the-variants.{Costs, Refused as Uncosted}
 use Rattle.rules.specs.declared.refusals.Answer.{Answer}
 use Rattle.rules.specs.declared.refusals.Answer.the-variants.{Issued, Waits, OnDebt, Refused as Declined}
-use Rattle.leaf.specs.Alone.{some, answerWith, answer-by-count, notedAt, issued-fits}
+use Rattle.leaf.specs.Alone.{counted, answerWith, answer-by-count, notedAt}
 use Rattle.leaf.specs.Fit.{CanTake, HasRoom, active-is-fit}
 use Rattle.submit.specs.declared.Judged.{Judged}
 use Rattle.submit.specs.OnLeaf.{CanJudge, onLeafBy, onLeaf}
 
 -- ---- refusals 7 and 8
 module _ (a : Answer) (cost : Abs) (row : Row) (n : ℕ) where
-  pub full : a ≡ Waits → queueRoom ≤ n → Refused QueueFull ≡ firstOf (roomChecks a cost row (some n))
+  pub full : a ≡ Waits → queueRoom ≤ n → Refused QueueFull ≡ firstOf (roomChecks a cost row (counted n))
   unfolding roomChecks
   full e l = rw (e, le-leb queueRoom n l)
 
-  pub place : a ≡ Waits → n < queueRoom → Accepted ≡ firstOf (roomChecks a cost row (some n))
+  pub place : a ≡ Waits → n < queueRoom → Accepted ≡ firstOf (roomChecks a cost row (counted n))
   unfolding roomChecks
   place e l = rw (e, lt-leb queueRoom n l)
 
-  pub over : a ≡ OnDebt → debtMost < row .debt .0 + cost .0 → Refused DebtFull ≡ firstOf (roomChecks a cost row (some n))
+  pub over : a ≡ OnDebt → debtMost < row .debt .0 + cost .0 → Refused DebtFull ≡ firstOf (roomChecks a cost row (counted n))
   unfolding roomChecks
   over e l = rw (e, lt-ltb debtMost (row .debt .0 + cost .0) l)
 
-  pub under : a ≡ OnDebt → row .debt .0 + cost .0 ≤ debtMost → Accepted ≡ firstOf (roomChecks a cost row (some n))
+  pub under : a ≡ OnDebt → row .debt .0 + cost .0 ≤ debtMost → Accepted ≡ firstOf (roomChecks a cost row (counted n))
   unfolding roomChecks
   under e l = rw (e, le-ltb debtMost (row .debt .0 + cost .0) l)
 
-  pub issues : a ≡ Issued → Accepted ≡ firstOf (roomChecks a cost row (some n))
+  pub issues : a ≡ Issued → Accepted ≡ firstOf (roomChecks a cost row (counted n))
   unfolding roomChecks
   issues e = rw e
 
-  pub declines : (x : Refusal) → a ≡ Declined x → Accepted ≡ firstOf (roomChecks a cost row (some n))
+  pub declines : (x : Refusal) → a ≡ Declined x → Accepted ≡ firstOf (roomChecks a cost row (counted n))
   unfolding roomChecks
   declines x e = rw e
 
 -- ---- a bio on its leaf: the answer and the verdict, as the code works them out
-placed : (cost : Abs) (row : Row) (n : ℕ) → firstOf (roomChecks Waits cost row (some n)) ≡ Accepted → n < queueRoom
+placed : (cost : Abs) (row : Row) (n : ℕ) → firstOf (roomChecks Waits cost row (counted n)) ≡ Accepted → n < queueRoom
 unfolding roomChecks
 placed cost row n = go (leb queueRoom n) refl
   where
     go : (t : Bool) → leb queueRoom n ≡ t → cond t (Refused QueueFull) Accepted ≡ Accepted → n < queueRoom
-    go true e i = let z : _≡_ {A = ℕ} 0 1 = cc in absurd (omega arith)
+    go true e i = never (cc)
     go false e i = leb-false queueRoom n e
 
 module _ {b : Bio} {cost : Abs} {share : ℕ} {row : Row} {queue : Queue} {forced : Bool} {answer : Answer} {verdict : Verdict}
     (can : CanJudge b cost share row queue) (f : forced ≡ isForced b) (a : answer ≡ answerWith forced cost share row (queue .len))
-    (v : verdict ≡ firstOf (roomChecks answer cost row (some (queue .len))))
+    (v : verdict ≡ firstOf (roomChecks answer cost row (counted (queue .len))))
   where
     answer-is : answer ≡ answerTo (isForced b) cost share row queue
     answer-is = a ∙ rw f (sym (answer-by-count (isForced b) cost share row queue))
@@ -93,7 +97,7 @@ module _ {b : Bio} {cost : Abs} {share : ℕ} {row : Row} {queue : Queue} {force
     can-take = record {
       books = can .fit .books;
       cheap = can .cheap;
-      fitting = λ i. issued-fits forced cost share row (queue .len) (sym a ∙ i);
+      fitting = λ i. issued-fits cost share row (counted (queue .len)) forced (sym a ∙ i);
     }
 
     pub has-room : verdict ≡ Accepted → HasRoom answer queue
@@ -143,10 +147,6 @@ pub at-node : {m n : ℕ} → m ≡ n → n < nodesMost → m < nodesMost
 at-node e h = rw e h
 
 -- ---- "1. An inactive leaf becomes active .."
-pub stays : (n : ℕ) (c : Controller) → has (c .active) n ≡ true → entered n c ≡ c
-unfolding entered
-stays n c e = rw e
-
 pub wakes : {c : Controller} → Sound c → (n : ℕ) → has (c .active) n ≡ false → entered n c ≡ rebased (activeWith n c) c
 unfolding entered
 wakes {c} s n e = rw e (activated-is n c (s .idle n e .no-budget))
@@ -175,23 +175,20 @@ landed n j c = record {
   state = cond (endsDonation (j .answer) && has (c .donors) n) (rebased (c .active) (put n j c)) (put n j c);
 }
 
-same-place : {A : Type 0} (l : List A) (n : ℕ) (d e : A) → n < length l → getD l n d ≡ getD l n e
-same-place l n d e h = sym (getD-set-same l n (getD l n d) e h) ∙ ap (λ k. getD k n e) (set-getD l n d)
-
 module _ {b : Bio} {cost : Abs} {c : Controller} (ready : Ready b cost c) {n share : ℕ} (m : n ≡ b .node) (s : share ≡ shareAt c n)
   where
     in-tree : n < nodesMost
     in-tree = rw m (active-node (ready .sound .tree) (c .active) (ready .sound .active) (b .node) (ready .active))
 
-    queue-read : getD (c .queues) n (some 0) ≡ queueAt c n
-    queue-read = same-place (c .queues) n (some 0) emptyQueue (omega (arith, ready .sound .queues-all, in-tree))
+    queue-read : getD (c .queues) n (counted 0) ≡ queueAt c n
+    queue-read = getD-inside (c .queues) n (counted 0) emptyQueue (omega (arith, ready .sound .queues-all, in-tree))
 
-    pub can-judge : CanJudge b cost share (rowAt c n) (getD (c .queues) n (some 0))
+    pub can-judge : CanJudge b cost share (rowAt c n) (getD (c .queues) n (counted 0))
     can-judge =
         rw (queue-read, s, m)
         (record { fit = active-is-fit (ready .sound) (b .node) (ready .active); range = ready .range; cheap = ready .cheap })
 
-    module _ {j : Judged} (e : j ≡ onLeaf b cost share (rowAt c n) (getD (c .queues) n (some 0))) where
+    module _ {j : Judged} (e : j ≡ onLeaf b cost share (rowAt c n) (getD (c .queues) n (counted 0))) where
       judged-is : j ≡ onLeaf b (costIn c b) (shareAt c (b .node)) (rowAt c (b .node)) (queueAt c (b .node))
       judged-is = e ∙ rw (queue-read, s, m, ready .same)
 
@@ -199,7 +196,7 @@ module _ {b : Bio} {cost : Abs} {c : Controller} (ready : Ready b cost c) {n sha
           × ((k : ℕ) → rowAt (put n j c) k .budget .0 * shareAt c k ≤ worthMost)
       can-rebase =
           let sound : Sound c = ready .sound in
-          let less : j .row .budget .0 ≤ rowAt c n .budget .0 = rw e (no-budget-gained b cost share (rowAt c n) (getD (c .queues) n (some 0))) in (
+          let less : j .row .budget .0 ≤ rowAt c n .budget .0 = rw e (no-budget-gained b cost share (rowAt c n) (getD (c .queues) n (counted 0))) in (
             sound .tree,
             sound .active,
             put-each (λ k r q. r .budget .0 * shareAt c k ≤ worthMost) n (j .row) (j .queue) c (sound .rows-all) (sound .queues-all) in-tree
@@ -235,21 +232,12 @@ idle-has-room Waits cost row q d l k = rw (lt-leb queueRoom (q .len) (omega arit
 idle-has-room OnDebt cost row q d l k = rw (le-ltb debtMost (row .debt .0 + cost .0) (omega arith))
 idle-has-room (Declined x) cost row q d l k = refl
 
-front : (x : Refusal) (ks ls : List Check) → firstOf ks ≡ Refused x → firstOf (ks ++ ls) ≡ Refused x
-front x [] ls e = let z : _≡_ {A = ℕ} 0 1 = cc in absurd (omega arith)
-front x (k ∷ ks) ls e = go (k .holds) e (front x ks ls)
-  where
-    go : (t : Bool) → cond t (Refused (k .refusal)) (firstOf ks) ≡ Refused x → (firstOf ks ≡ Refused x → firstOf (ks ++ ls) ≡ Refused x)
-        → cond t (Refused (k .refusal)) (firstOf (ks ++ ls)) ≡ Refused x
-    go true i h = i
-    go false i h = h i
-
 uncosted : (model : Model) (row : Row) (b : Bio) (x : Refusal) → costing model row b ≡ Uncosted x → firstOf (costChecks model row b) ≡ Refused x
 unfolding costing costingBy
 uncosted model row b x = go (firstOf (costChecks model row b))
   where
     go : (v : Verdict) → costingBy v model row b ≡ Uncosted x → v ≡ Refused x
-    go Accepted e = let z : _≡_ {A = ℕ} 0 1 = cc in absurd (omega arith)
+    go Accepted e = never (cc)
     go (Refused y) e = cc
 
 -- what is judged in a state, by the verdict there
@@ -261,12 +249,12 @@ abbrev judged : Bio → Controller → Submitted
 judged b c = landed (b .node) (onLeaf b (costIn c b) (shareAt c (b .node)) (rowAt c (b .node)) (queueAt c (b .node))) c
 
 alike : (b : Bio) (c : Controller) (v : Verdict) → entered (b .node) c ≡ c → judgedBy v b c ≡ submittedBy v b c
-unfolding onLeafBy submittedBy submission settled applied endsDonation
+unfolding onLeafBy submittedBy submission wouldBe settled applied endsDonation
 alike b c Accepted t = rw t
 alike b c (Refused x) t = rw (set-getD (c .rows) (b .node) emptyRow, set-getD (c .queues) (b .node) emptyQueue)
 
 woken-alike : (b : Bio) (c : Controller) → judgedBy Accepted b (entered (b .node) c) ≡ submittedBy Accepted b c
-unfolding onLeafBy submittedBy submission settled applied
+unfolding onLeafBy submittedBy submission wouldBe settled applied
 woken-alike b c = refl
 
 module _ {c : Controller} (s : Sound c) (b : Bio) where
@@ -279,7 +267,7 @@ module _ {c : Controller} (s : Sound c) (b : Bio) where
     unfolding submitted submittedBy submitChecks
     unfit x e =
         rw leaf
-        (ap (λ (v : Verdict). submittedBy v b c) (sym (front x (costChecks (c .model) (rowAt c (b .node)) b) _ (uncosted (c .model) (rowAt c (b .node)) b x e))))
+        (ap (λ (v : Verdict). submittedBy v b c) (sym (first-refused (costChecks (c .model) (rowAt c (b .node)) b) _ x (uncosted (c .model) (rowAt c (b .node)) b x e))))
 
     module _ (cost : Abs) (e : costing (c .model) (rowAt c (b .node)) b ≡ Costs cost) where
       range : bioInRange b ≡ true
@@ -310,7 +298,7 @@ module _ {c : Controller} (s : Sound c) (b : Bio) where
       in-place : has (c .active) (b .node) ≡ true → judged b (entered (b .node) c) ≡ submitted b c
       unfolding onLeaf answerIn submitted wouldBe
       in-place on =
-          let there : entered (b .node) c ≡ c = stays (b .node) c on in
+          let there : entered (b .node) c ≡ c = entered-active (b .node) c on in
           ap (judged b) there ∙ alike b c (firstOf (roomChecks (answerIn c b) (costIn c b) (rowAt c (b .node)) (queueAt c (b .node)))) there
           ∙ ap (λ (v : Verdict). submittedBy v b c) (rw (first, there))
 
@@ -328,7 +316,7 @@ module _ {c : Controller} (s : Sound c) (b : Bio) where
           (sym (first ∙ idle-has-room (wouldBe c b) (costIn c b) (rowAt c (b .node)) (queueAt c (b .node)) (here .no-debt) (here .no-waiter) small))
 
       pub submits : {n share : ℕ} {d : Controller} {j : Judged} {r : Submitted} → n ≡ b .node → d ≡ entered n c → share ≡ shareAt d n
-          → j ≡ onLeaf b cost share (rowAt d n) (getD (d .queues) n (some 0)) → r ≡ landed n j d → r ≡ submitted b c
+          → j ≡ onLeaf b cost share (rowAt d n) (getD (d .queues) n (counted 0)) → r ≡ landed n j d → r ≡ submitted b c
       submits {n} {share} {d} {j} m i h e l =
           l ∙ rw (judged-is (ready-there m i) m h e, i, m) (go (has (c .active) (b .node)) refl)
         where

@@ -9,7 +9,7 @@ ghost use Rattle.rules.specs.Budget.{endsDonation};
 ghost use Rattle.rules.specs.Refusals.{firstOf, roomChecks};
 ghost use Rattle.rules.specs.Entries.{submitted};
 ghost use Rattle.rules.specs.Invariant.{Sound};
-ghost use Rattle.leaf.specs.Alone.{some};
+ghost use Rattle.leaf.specs.Alone.{counted};
 ghost use Rattle.submit.specs.OnLeaf.{CanJudge, onLeaf};
 use rules::budget::Controller;
 use rules::budget::Queue;
@@ -53,7 +53,7 @@ fn holds(set: u64, node: usize) -> bool
 // Refusals 7 and 8: by the answer, how many wait, and what is owed.
 fn room(answer: Answer, cost: Abs, row: Row, waiting: u8) -> Verdict
     requires { ⌜ (row .debt .0 ≤ debtMost) × (cost .0 ≤ costMost) ⌝ }
-    ensures { λ r. ⌜ r ≡ firstOf (roomChecks answer cost row (some waiting)) ⌝ }
+    ensures { λ r. ⌜ r ≡ firstOf (roomChecks answer cost row (counted waiting)) ⌝ }
 {
     match answer {
         Answer::Waits => {

@@ -25,7 +25,7 @@ use Rattle.rules.specs.declared.refusals.Refusal.the-variants.{FewPlaces}
 use Rattle.rules.specs.declared.refusals.Verdict.{Verdict}
 use Rattle.rules.specs.declared.refusals.Verdict.the-variants.{Accepted, Refused}
 use Rattle.rules.specs.declared.refusals.Count.the-variants.{Refused as Unticked}
-use Rattle.leaf.specs.Alone.{some}
+use Rattle.leaf.specs.Alone.{counted}
 use Rattle.tick.specs.Clocks.{clockChecks}
 
 -- ---- what waits, counted leaf by leaf
@@ -41,8 +41,8 @@ pub none-counted : (c : Controller) → Counted c 0 1
 unfolding sumTo
 none-counted c = record { from = omega arith; upto = omega arith; sum = refl }
 
-module _ {c : Controller} (sound : Sound c) {waiting n : ℕ} (counted : Counted c waiting n) where
-  module _ (h : n < nodesMost) {len : ℕ} (e : len ≡ getD (c .queues) n (some 0) .len) where
+module _ {c : Controller} (sound : Sound c) {waiting n : ℕ} (below : Counted c waiting n) where
+  module _ (h : n < nodesMost) {len : ℕ} (e : len ≡ getD (c .queues) n (counted 0) .len) where
     pub one-counted : Counted c (waiting + len) (n + 1)
     one-counted =
         let next : n + 1 - 1 ≡ n = omega arith in
@@ -50,7 +50,7 @@ module _ {c : Controller} (sound : Sound c) {waiting n : ℕ} (counted : Counted
           from = omega arith;
           upto = omega arith;
           sum =
-              rw (next, sum-step (λ k. queueAt c k .len) n (counted .from), counted .sum, e, getD-inside (c .queues) n (some 0) emptyQueue (rw (sound .queues-all) h));
+              rw (next, sum-step (λ k. queueAt c k .len) n (below .from), below .sum, e, getD-inside (c .queues) n (counted 0) emptyQueue (rw (sound .queues-all) h));
         }
 
     pub count-small : waiting + len ≤ waitingMost
@@ -62,7 +62,7 @@ module _ {c : Controller} (sound : Sound c) {waiting n : ℕ} (counted : Counted
 
   pub all-counted : nodesMost ≤ n → waiting ≡ waitingAll c
   unfolding waitingAll
-  all-counted h = let e : n ≡ nodesMost = omega (arith, counted .upto) in rw e at (counted .sum)
+  all-counted h = let e : n ≡ nodesMost = omega (arith, below .upto) in rw e at (below .sum)
 
 -- ---- the checks in the table's order
 module _ (time places : ℕ) (c : Controller) where

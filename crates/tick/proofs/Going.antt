@@ -27,7 +27,7 @@ use Rattle.rules.specs.declared.budget.Controller.{Controller}
 use Rattle.rules.specs.declared.budget.Ticked.{Ticked}
 use Rattle.rules.specs.declared.refusals.Count.the-variants.{Released}
 use Rattle.rules.specs.declared.refusals.Verdict.the-variants.{Accepted}
-use Rattle.leaf.specs.Alone.{some}
+use Rattle.leaf.specs.Alone.{counted}
 use Rattle.leaf.specs.Fit.{Fit, gainMost}
 use Rattle.leaf.specs.Turns.{turned}
 use Rattle.leaf.specs.declared.tick.Turned.{Turned}
@@ -82,7 +82,7 @@ same-going o e a going = rw (o, e, a) going
 
 -- the queue that the code reads: inside the list, whatever stands past its end
 abbrev read : Controller → ℕ → Queue
-read s n = getD (s .queues) n (some 0)
+read s n = getD (s .queues) n (counted 0)
 
 module _ {c : Controller} (sound : Sound c) (g : Virt) where
   -- no more is released than waits, up to any leaf
@@ -116,8 +116,8 @@ module _ {c : Controller} (sound : Sound c) (g : Virt) where
 
     queue-here : read s n ≡ queueAt c n
     queue-here =
-        place-here (queueOf g c) (c .queues) (s .queues) n (some 0) (sound .queues-all) (going .queues) h
-        ∙ getD-inside (c .queues) n (some 0) emptyQueue (rw (sound .queues-all) h)
+        place-here (queueOf g c) (c .queues) (s .queues) n (counted 0) (sound .queues-all) (going .queues) h
+        ∙ getD-inside (c .queues) n (counted 0) emptyQueue (rw (sound .queues-all) h)
 
     share-here : shareAt s n ≡ shareAt c n
     share-here = ap (λ (k : Controller). shareAt k n) (going .rest)

@@ -11,7 +11,7 @@ use lib.ListN.{getD}
 use borrow.Author.Tests.{le-leb, lt-leb, lt-ltb, le-ltb}
 use lib.Dec.{leb}
 use Rattle.rules.specs.Numbers.{nodesLeast, nodesMost, levelMost}
-use Rattle.rules.specs.Tree.{last, level, countInRange, weightInRange, nodeFault, orElse, faultTo, treeFault, newestFault}
+use Rattle.rules.specs.Tree.{last, level, countInRange, weightInRange, nodeFault, firstFault, faultTo, treeFault, newestFault}
 use Rattle.rules.specs.Refusals.{isFault}
 use Rattle.rules.specs.declared.tree.Tree.{Tree}
 use Rattle.rules.specs.declared.tree.Fault.{Fault}
@@ -50,7 +50,7 @@ module _ (ps ws : List ℕ) (n : ℕ) (pos : 0 < n) {q : ℕ} (e : q ≡ getD ps
           rw (parent-at count ps ws n pos, ← e, lt-leb n q small, weight-at count ps ws n, fair, ← levels count ws, le-ltb levelMost r l)
 
 -- ---- node after node
-or-else-kept : (f g : Fault) → isFault f ≡ true → orElse f g ≡ f
+or-else-kept : (f g : Fault) → isFault f ≡ true → firstFault f g ≡ f
 or-else-kept Sound g e = absurd (true-not-false e refl)
 or-else-kept Count g e = refl
 or-else-kept (Parent n) g e = refl

@@ -16,15 +16,12 @@ use Rattle.rules.specs.Tree.{parent, weight, last, isLeaf, isActive, childSum}
 use Rattle.rules.specs.declared.tree.Tree.{Tree}
 use Rattle.rules.specs.Laws.Bools.{same-test, and-left, and-right, and-both}
 use Rattle.rules.specs.Laws.Sums.{sum-step}
-use Rattle.rules.specs.Laws.Sets.{has-setOf, setOf-fits, setOf-in, has-node, set-cong, set-back}
+use Rattle.rules.specs.Laws.Sets.{has-setOf, setOf-fits, has-node, set-cong, set-back}
 use Rattle.rules.specs.Laws.Trees.{SoundTree, Within, leaf-active, active-last, active-up, child-in, share-root, share-step, share-le}
 use Rattle.tree.specs.View.{treeOf, leavesIn, Lit, childSumIn, shareAmong}
 use Rattle.tree.proofs.View.{parent-at, weight-at, last-at}
 
 -- ---- from the active leaves to the active nodes and back
-leaves-in-within : (t : Tree) (nodes : ℕ) → Within t (leavesIn t nodes)
-leaves-in-within t nodes n e = and-left (isLeaf t n) (has nodes n) (setOf-in (λ k. isLeaf t k && has nodes k) n e)
-
 module _ {t : Tree} (sound : SoundTree t) (active : ℕ) (within : Within t active) (fits : active < 2 ^ nodesMost)
     {nodes : ℕ} (all : nodes ≡ setOf (isActive t active)) where
   pub leaves-back : leavesIn t nodes ≡ active

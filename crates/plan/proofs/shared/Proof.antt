@@ -5,7 +5,7 @@ use mathlib.Core.Bool.{Bool, true, false}
 use mathlib.Core.List.{List}
 use Prim.Native.Nat.{ℕ}
 use borrow.Author.Needs.{needs}
-use Rattle.rules.specs.Words.{none}
+use Rattle.rules.specs.Words.{noNode}
 use Rattle.rules.specs.Budget.{reshared}
 use Rattle.rules.specs.Plan.{isDonation, donated, shared}
 use Rattle.rules.specs.declared.budget.Controller.{Controller}
@@ -18,7 +18,7 @@ module _ (active donors : ℕ) (bases targets : List ℕ) (c : Controller) {b : 
   unfolding shared
   with-donors t s q = rw (sym e ∙ t) (q ∙ ap (λ (l : List ℕ). reshared active donors l c) s)
 
-  without : b ≡ false → {r : Controller} → r ≡ reshared active none bases c → r ≡ shared active donors bases targets c
+  without : b ≡ false → {r : Controller} → r ≡ reshared active noNode bases c → r ≡ shared active donors bases targets c
   unfolding shared
   without t q = rw (sym e ∙ t) q
 

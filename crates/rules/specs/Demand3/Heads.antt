@@ -11,9 +11,9 @@ use native.Mathlib.Omega.{arith}
 use lib.ListN.{length, getD, drop, length-append, length-drop, List·getD-append}
 use lib.Seq.{getD-append-add, getD-drop}
 use Rattle.rules.specs.Numbers.{leafMost}
-use Rattle.rules.specs.Words.{sumTo, has, none}
+use Rattle.rules.specs.Words.{sumTo, has, noNode}
 use Rattle.rules.specs.Units.{virt, FLOOR, relative, repayable}
-use Rattle.rules.specs.Budget.{rowAt, queueAt, shareAt, popped, oldestCost, reshared, rebased, activated, entered, endsDonation, answerIn, applied, settled, submission}
+use Rattle.rules.specs.Budget.{rowAt, queueAt, shareAt, popped, oldestCost, reshared, rebased, activated, entered, endsDonation, applied, settled, submission, wouldBe}
 use Rattle.rules.specs.Tick.{growth, advanced, gained, repayment, repaid as repaying, turn, turnOf, releases, lentAfter, tick as ticking}
 use Rattle.rules.specs.Plan.{usageAll, isDonation, donated, closed, shared, plan as planning}
 use Rattle.rules.specs.Refusals.{firstOf, submitChecks, tickChecks, planChecks, vrateChecks}
@@ -230,14 +230,14 @@ settling-keeps-the-clock a b c = go (endsDonation a && has (c .donors) (b .node)
 submitting-keeps-the-clock : (b : Bio) (c : Controller) (v : Verdict) → submittedBy v b c .state .clock ≡ c .clock
 unfolding submittedBy submission
 submitting-keeps-the-clock b c Accepted =
-    settling-keeps-the-clock (answerIn (entered (b .node) c) b) b (entered (b .node) c) ∙ entering-keeps-the-clock (b .node) c
+    settling-keeps-the-clock (wouldBe c b) b (entered (b .node) c) ∙ entering-keeps-the-clock (b .node) c
 submitting-keeps-the-clock b c (Refused x) = refl
 
 sharing-keeps-the-clock : (active donors : ℕ) (bases targets : List ℕ) (c : Controller) → shared active donors bases targets c .clock ≡ c .clock
 unfolding shared reshared
 sharing-keeps-the-clock active donors bases targets c = go (isDonation active donors)
   where
-    go : (t : Bool) → cond t (reshared active donors (donated active donors bases targets) c) (reshared active none bases c) .clock ≡ c .clock
+    go : (t : Bool) → cond t (reshared active donors (donated active donors bases targets) c) (reshared active noNode bases c) .clock ≡ c .clock
     go true = refl
     go false = refl
 

@@ -9,7 +9,7 @@ use lib.ListN.{take}
 use native.Mathlib.Nat.{le-of-mul-le-mul-right}
 use native.Mathlib.Omega.{arith}
 use Rattle.rules.specs.Numbers.{WHOLE, leafMost, vtimeMost}
-use Rattle.rules.specs.Words.{sumTo, has, none}
+use Rattle.rules.specs.Words.{sumTo, has, noNode}
 use Rattle.rules.specs.Units.{CEIL}
 use Rattle.rules.specs.Tree.{baseShare, baseShares}
 use Rattle.rules.specs.Budget.{shareAt}
@@ -101,7 +101,7 @@ module _ (tree : Tree) (rates : Rates) (time : ℕ) (ks : List Call) where
 
   -- where no donation stands, or one has ended, every leaf holds its base share
   pub no-donation-restores-base : (c : Controller) → c ≡ run ks (started tree rates time .state)
-      → c .donors ≡ none → c .shares ≡ baseShares (c .tree) (c .active)
+      → c .donors ≡ noNode → c .shares ≡ baseShares (c .tree) (c .active)
   no-donation-restores-base c e = rw e (reached-is-sound ks (start-gives tree rates time) .no-donation)
 
 -- ---- and none of this is said of nothing: the bench's run begins with a start and has answers of every kind, refusals 4 to 15

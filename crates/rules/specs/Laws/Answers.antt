@@ -7,11 +7,14 @@ use Prim.Native.Nat.{ℕ, _≤_}
 use native.Mathlib.Omega.{arith}
 use borrow.Author.Tests.{leb-true, le-leb, ltb-false, le-ltb, not-true}
 use Rattle.rules.specs.Units.{relative}
-use Rattle.rules.specs.Budget.{owes, waits, fits, answerTo}
-use Rattle.rules.specs.Laws.Bools.{true-not-false, exactly, exactly-both, exactly-not}
+use Rattle.rules.specs.Cost.{isForced}
+use Rattle.rules.specs.Budget.{owes, waits, fits, answerTo, answerIn, wouldBe}
+use Rattle.rules.specs.Laws.Bools.{never, true-not-false, exactly, exactly-both, exactly-not}
 use Rattle.rules.specs.declared.units.Abs.{Abs}
+use Rattle.rules.specs.declared.cost.Bio.{Bio}
 use Rattle.rules.specs.declared.budget.Row.{Row}
 use Rattle.rules.specs.declared.budget.Queue.{Queue}
+use Rattle.rules.specs.declared.budget.Controller.{Controller}
 use Rattle.rules.specs.declared.refusals.Refusal.{Refusal}
 use Rattle.rules.specs.declared.refusals.Answer.{Answer}
 use Rattle.rules.specs.declared.refusals.Answer.the-variants.{Issued, Waits, OnDebt, Refused as Declined}
@@ -34,10 +37,10 @@ record Other (a : Answer) : Type 0 where
   not-issued : a ≡ Issued → ⊥
 
 waits-is-other : Other Waits
-waits-is-other = record { not-issued = λ e. let z : _≡_ {A = ℕ} 0 1 = cc in omega arith }
+waits-is-other = record { not-issued = λ e. never (cc) }
 
 debt-is-other : Other OnDebt
-debt-is-other = record { not-issued = λ e. let z : _≡_ {A = ℕ} 0 1 = cc in omega arith }
+debt-is-other = record { not-issued = λ e. never (cc) }
 
 issued-if : (a : Answer) → Other a → (t : Bool) → (cond t Issued a ≡ Issued) ↔ (t ≡ true)
 issued-if a o true = (λ e. refl, λ t. refl)
@@ -48,7 +51,7 @@ other-if-not a o true = (λ e. absurd (o .not-issued (cc)), λ t. absurd (true-n
 other-if-not a o false = (λ e. refl, λ t. refl)
 
 never-declined-if : (a : Answer) (x : Refusal) → (a ≡ Declined x → ⊥) → (t : Bool) → cond t Issued a ≡ Declined x → ⊥
-never-declined-if a x h true e = let z : _≡_ {A = ℕ} 0 1 = cc in omega arith
+never-declined-if a x h true e = never (cc)
 never-declined-if a x h false e = h e
 
 -- ---- "debt is 0 and it fits"
@@ -97,7 +100,11 @@ module _ (cost : Abs) (share : ℕ) (r : Row) (q : Queue) where
   issued-fits true e = fits-its-budget cost share r .1 (forced-is-issued-exactly-when .0 e .fit)
 
   -- these steps refuse nothing
-  pub answer-is-no-refusal : (forced : Bool) (x : Refusal) → answerTo forced cost share r q ≡ Declined x → ⊥
+  no-refusal : (forced : Bool) (x : Refusal) → answerTo forced cost share r q ≡ Declined x → ⊥
   unfolding answerTo
-  answer-is-no-refusal false x e = never-declined-if Waits x (λ i. let z : _≡_ {A = ℕ} 0 1 = cc in omega arith) (not (owes r) && not (waits q) && fits cost share r) e
-  answer-is-no-refusal true x e = never-declined-if OnDebt x (λ i. let z : _≡_ {A = ℕ} 0 1 = cc in omega arith) (not (owes r) && fits cost share r) e
+  no-refusal false x e = never-declined-if Waits x (λ i. never (cc)) (not (owes r) && not (waits q) && fits cost share r) e
+  no-refusal true x e = never-declined-if OnDebt x (λ i. never (cc)) (not (owes r) && fits cost share r) e
+
+pub answer-is-no-refusal : (c : Controller) (b : Bio) (x : Refusal) → wouldBe c b ≡ Declined x → ⊥
+unfolding wouldBe answerIn
+answer-is-no-refusal c b x e = no-refusal _ _ _ _ (isForced b) x e

@@ -15,7 +15,7 @@ use Rattle.rules.specs.Trace.{behind, readAt}
 use Rattle.rules.specs.Replay.{Step, isStopped, silent, beginning, readStep, nextPlace, stepped, replayFrom, replay}
 use Rattle.rules.specs.Chunks.{isEnd, wantsBytes, halts, pauseOf, Part, nothing, printedBefore, partFrom, part, fed}
 use Rattle.rules.specs.Invariant.{Playing}
-use Rattle.rules.specs.Laws.Bools.{true-not-false, or-left, or-not-left, or-not-right}
+use Rattle.rules.specs.Laws.Bools.{never, true-not-false, or-left, or-not-left, or-not-right}
 use Rattle.rules.specs.Laws.Trace.{found-only-whole}
 use Rattle.rules.specs.Laws.Replays.{stepped-plays}
 use Rattle.rules.specs.declared.trace.Read.{Read}
@@ -34,7 +34,7 @@ stopped-steps : (read : Read) (s : Replay) → isStopped (s .phase) ≡ true →
 unfolding stepped
 stopped-steps read s e = rw e
 
-going-steps : (read : Read) (s : Replay) → isStopped (s .phase) ≡ false → stepped read s ≡ readStep read s
+pub going-steps : (read : Read) (s : Replay) → isStopped (s .phase) ≡ false → stepped read s ≡ readStep read s
 unfolding stepped
 going-steps read s e = rw e
 
@@ -178,9 +178,6 @@ unfolding halts
 moves-when last read room s e =
     let awake = or-not-right (isStopped (s .phase)) _ e in
     (or-not-left _ _ e, or-not-left _ _ awake, or-not-left _ _ (or-not-right (wantsBytes last read) _ awake))
-
-never : {A : Type 0} → _≡_ {A = ℕ} 0 1 → A
-never e = absurd (omega arith)
 
 over-when : (stopped wants end : Bool) → cond stopped Over (cond wants Bytes (cond end Over Room)) ≡ Over
     → (stopped ≡ true) ⊎ ((wants ≡ false) × (end ≡ true))

@@ -13,7 +13,7 @@ use Rattle.rules.specs.Units.{CEIL}
 use Rattle.rules.specs.Cost.{bpsInRange, iopsInRange, ratesInRange, pageCost, baseCost, priceOf, priced, bytesInRange, sectorInRange, flagsInRange, bioInRange, isWrite, isNear, isSequential, endOf, costAt, costOf}
 use Rattle.rules.specs.Refusals.{rateChecks, costChecks}
 use Rattle.rules.specs.Entries.{pricingBy, pricing, costingBy, costing}
-use Rattle.rules.specs.Laws.Bools.{true-not-false, and-not-left, and-swap, exactly, exactly-pair, exactly-both, exactly-not, at-most, between}
+use Rattle.rules.specs.Laws.Bools.{never, true-not-false, and-not-left, and-swap, exactly, exactly-pair, exactly-both, exactly-not, at-most, between}
 use Rattle.rules.specs.Laws.Units.{ceil-enough, ceil-least}
 use Rattle.rules.specs.declared.units.Abs.{Abs}
 use Rattle.rules.specs.declared.cost.Rates.{Rates}
@@ -176,7 +176,7 @@ end-most b e = let w = bio-in-range b .0 e in omega arith
 -- ---- refusal 3 exactly when a rate is out of range
 pricing-by : (t : Bool) (r : Rates) → (pricingBy (cond (not t) (Refused BadRate) Accepted) r ≡ Unpriced BadRate) ↔ (t ≡ false)
 unfolding pricingBy
-pricing-by true r = (λ e. let z : _≡_ {A = ℕ} 0 1 = cc in absurd (omega arith), λ f. absurd (true-not-false refl f))
+pricing-by true r = (λ e. never (cc), λ f. absurd (true-not-false refl f))
 pricing-by false r = (λ e. refl, λ f. refl)
 
 pub pricing-refuses-exactly-when : (r : Rates) → (pricing r ≡ Unpriced BadRate) ↔ (RatesInRange r → ⊥)
@@ -196,22 +196,22 @@ module _ (m : Model) (row : Row) (b : Bio) where
 
   out-of-range : (fit dear : Bool) → (answered fit dear ≡ Uncosted BadBio) ↔ (fit ≡ false)
   unfolding costingBy
-  out-of-range true true = (λ e. absurd (let z : _≡_ {A = ℕ} 0 1 = cc in omega arith), λ f. absurd (true-not-false refl f))
-  out-of-range true false = (λ e. absurd (let z : _≡_ {A = ℕ} 0 1 = cc in omega arith), λ f. absurd (true-not-false refl f))
+  out-of-range true true = (λ e. never (cc), λ f. absurd (true-not-false refl f))
+  out-of-range true false = (λ e. never (cc), λ f. absurd (true-not-false refl f))
   out-of-range false dear = (λ e. refl, λ f. refl)
 
   too-dear : (fit dear : Bool) → (answered fit dear ≡ Uncosted TooDear) ↔ ((fit && dear) ≡ true)
   unfolding costingBy
   too-dear true true = (λ e. refl, λ t. refl)
-  too-dear true false = (λ e. absurd (let z : _≡_ {A = ℕ} 0 1 = cc in omega arith), λ t. absurd (true-not-false t refl))
-  too-dear false dear = (λ e. absurd (let z : _≡_ {A = ℕ} 0 1 = cc in omega arith), λ t. absurd (true-not-false t refl))
+  too-dear true false = (λ e. never (cc), λ t. absurd (true-not-false t refl))
+  too-dear false dear = (λ e. never (cc), λ t. absurd (true-not-false t refl))
 
   costs : (fit dear : Bool) (cost : Abs) → (answered fit dear ≡ Costs cost)
       ↔ (((fit ≡ true) × (dear ≡ false)) × (cost ≡ costOf m row b))
   unfolding costingBy
-  costs true true cost = (λ e. absurd (let z : _≡_ {A = ℕ} 0 1 = cc in omega arith), λ w. absurd (true-not-false refl (w .0 .1)))
+  costs true true cost = (λ e. never (cc), λ w. absurd (true-not-false refl (w .0 .1)))
   costs true false cost = (λ e. ((refl, refl), cc), λ w. ap Costs (sym (w .1)))
-  costs false dear cost = (λ e. absurd (let z : _≡_ {A = ℕ} 0 1 = cc in omega arith), λ w. absurd (true-not-false (w .0 .0) refl))
+  costs false dear cost = (λ e. never (cc), λ w. absurd (true-not-false (w .0 .0) refl))
 
   pub costing-refuses-the-range-exactly-when : (costing m row b ≡ Uncosted BadBio) ↔ (BioInRange b → ⊥)
   unfolding costing costChecks

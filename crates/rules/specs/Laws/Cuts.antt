@@ -3,60 +3,26 @@
 use mathlib.Core.Path.{_≡_, refl, sym, _∙_}
 use mathlib.Core.Bool.{Bool, true, false, cond, _&&_, _||_}
 use mathlib.Core.Logic.{inl, inr}
-use mathlib.Core.List.{List, [], _∷_, _++_, append-nil, append-assoc}
-use Prim.Native.Nat.{ℕ, zero, suc, _+_, _-_, _≤_, _<_}
+use mathlib.Core.List.{List, [], _++_, append-nil, append-assoc}
+use Prim.Native.Nat.{ℕ, zero, suc, _+_, _≤_, _<_}
 use native.Mathlib.Nat.{add-zero}
 use native.Mathlib.Omega.{arith}
 use lib.Dec.{ltb}
-use lib.ListN.{length, getD, drop, length-append, length-drop, List·getD-append}
-use lib.Seq.{take-append-le, drop-append-le, drop-drop, getD-drop}
+use lib.ListN.{length, drop, length-append, length-drop}
+use lib.Seq.{drop-append-le}
 use Rattle.rules.specs.Numbers.{lineRoom}
-use Rattle.rules.specs.Trace.{total, layout, fieldsFrom, behind, readAt}
+use Rattle.rules.specs.Trace.{readAt}
 use Rattle.rules.specs.Replay.{isStopped, beginning, readStep, nextPlace, stepped, replayFrom, replay}
 use Rattle.rules.specs.Chunks.{isEnd, isCut, wantsBytes, halts, pauseOf, part}
 use Rattle.rules.specs.Laws.Bools.{true-not-false, and-swap, or-left}
-use Rattle.rules.specs.Laws.Trace.{Reading, each-answer, beyond-is-cut, end-at-the-end, unknown-is-refused, short-is-cut, whole-is-found}
-use Rattle.rules.specs.Laws.Trace.Reading.{beyond, ended, unknown, cut, whole}
+use Rattle.rules.specs.Laws.Pieces.{same-with-more, shifted, shifted-with-less}
 use Rattle.rules.specs.Laws.Chunks.{replays-one, replays-on, enough-turns, rest, by-steps, part-inside, part-prints, over-is-silent, Suffices, suffices-on, still-suffices}
 use Rattle.rules.specs.declared.trace.Read.{Read}
 use Rattle.rules.specs.declared.trace.Read.the-variants.{Found, End, Refused as Unread}
 use Rattle.rules.specs.declared.replay.Replay.{Replay}
 use Rattle.rules.specs.declared.replay.Pause.the-variants.{Over, Bytes, Room}
 
--- ---- what is read in a chunk is read in the trace that it is cut from
-fields-stay : (ws bytes later : List ℕ) → total ws ≤ length bytes → fieldsFrom ws (bytes ++ later) ≡ fieldsFrom ws bytes
-unfolding fieldsFrom
-fields-stay [] bytes later h = refl
-fields-stay (w ∷ ws) bytes later h =
-    let left : total ws ≤ length (drop w bytes) = simp length-drop (omega arith) in
-    rw (take-append-le w bytes later (omega arith), drop-append-le w bytes later (omega arith), fields-stay ws (drop w bytes) later left)
-
--- more bytes behind it change nothing of a record that is here whole, or of an unknown kind
-stays-read : {here : List ℕ} {at : ℕ} {read : Read} (later : List ℕ) → Reading here at read → isCut read ≡ false
-    → readAt (here ++ later) at ≡ read
-unfolding isCut behind
-stays-read later (beyond h) c = absurd (true-not-false refl c)
-stays-read later (ended e) c = absurd (true-not-false refl c)
-stays-read {here} {at} later (unknown i k) c =
-    unknown-is-refused (here ++ later) at (rw length-append (omega arith)) (rw (List·getD-append here later 0 at i) k)
-stays-read later (cut i k h) c = absurd (true-not-false refl c)
-stays-read {here} {at} later (whole k l) c =
-    let kind : ℕ = getD here at 0 in
-    let one : getD (here ++ later) at 0 ≡ kind = List·getD-append here later 0 at (omega arith) in
-    let body : drop (at + 1) (here ++ later) ≡ drop (at + 1) here ++ later = drop-append-le (at + 1) here later (omega arith) in
-    let fits : total (layout kind) ≤ length (drop (at + 1) here) = simp length-drop (omega arith) in
-    whole-is-found (here ++ later) at (rw length-append (omega arith)) (rw one k) (rw (one, length-append) (omega arith))
-    ∙ rw (one, body, fields-stay (layout kind) (drop (at + 1) here) later fits)
-
-pub same-with-more : (here later : List ℕ) (at : ℕ) → isCut (readAt here at) ≡ false → readAt (here ++ later) at ≡ readAt here at
-same-with-more here later at c = stays-read later (each-answer here at) c
-
--- bytes dropped before it move a record's end, and nothing else
-unfoldable pub shifted : ℕ → Read → Read
-shifted k (Found r next) = Found r (k + next)
-shifted k End = End
-shifted k (Unread x) = Unread x
-
+-- ---- a replay of what is left of a trace
 shifted-steps : (k : ℕ) (read : Read) (s : Replay) → stepped (shifted k read) s ≡ stepped read s
 unfolding shifted stepped readStep
 shifted-steps k (Found r next) s = refl
@@ -70,31 +36,14 @@ shifted-next k End at = refl
 shifted-next k (Unread x) at = refl
 
 module _ (trace : List ℕ) (k : ℕ) (h : k ≤ length trace) where
-  shifts-read : {at : ℕ} {read : Read} → Reading (drop k trace) at read → readAt trace (k + at) ≡ shifted k read
-  unfolding shifted behind
-  shifts-read {at} (beyond l) = beyond-is-cut trace (k + at) (omega (arith, rw length-drop at l))
-  shifts-read {at} (ended e) = end-at-the-end trace (k + at) (omega (arith, rw length-drop at e))
-  shifts-read {at} (unknown i n) = unknown-is-refused trace (k + at) (omega (arith, rw length-drop at i)) (rw getD-drop at n)
-  shifts-read {at} (cut i n l) =
-      short-is-cut trace (k + at) (omega (arith, rw length-drop at i)) (rw getD-drop at n) (omega (arith, rw (length-drop, getD-drop) at l))
-  shifts-read {at} (whole n l) =
-      let size : ℕ = total (layout (getD trace (k + at) 0)) in
-      let inside : at + 1 + size ≤ length trace - k = rw (length-drop, getD-drop) at l in
-      let body : k + (at + 1) ≡ k + at + 1 = omega arith in
-      let end : k + (at + 1 + size) ≡ k + at + 1 + size = omega arith in
-      whole-is-found trace (k + at) (omega arith) (rw getD-drop at n) (omega arith) ∙ sym (rw (getD-drop, drop-drop, body, end))
-
-  pub shifted-with-less : (at : ℕ) → readAt trace (k + at) ≡ shifted k (readAt (drop k trace) at)
-  shifted-with-less at = shifts-read (each-answer (drop k trace) at)
-
   replays-shifted : (f at : ℕ) (s : Replay) → replayFrom f (drop k trace) at s ≡ replayFrom f trace (k + at) s
   replays-shifted zero at s =
-      rw (replays-one trace (k + at) s, replays-one (drop k trace) at s, shifted-with-less at, shifted-steps k (readAt (drop k trace) at) s)
+      rw (replays-one trace (k + at) s, replays-one (drop k trace) at s, shifted-with-less trace k h at, shifted-steps k (readAt (drop k trace) at) s)
   replays-shifted (suc f) at s =
       rw (
         replays-on f trace (k + at) s,
         replays-on f (drop k trace) at s,
-        shifted-with-less at,
+        shifted-with-less trace k h at,
         shifted-steps k (readAt (drop k trace) at) s,
         shifted-next k (readAt (drop k trace) at) at,
         replays-shifted f,

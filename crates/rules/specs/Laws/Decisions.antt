@@ -6,15 +6,15 @@ use mathlib.Core.Bool.{Bool, true, false, _&&_}
 use Prim.Native.Nat.{ℕ, _*_, _≤_, _<_}
 use native.Mathlib.Omega.{arith}
 use Rattle.rules.specs.Numbers.{WHOLE}
-use Rattle.rules.specs.Words.{has, none}
+use Rattle.rules.specs.Words.{has, noNode}
 use Rattle.rules.specs.Units.{relative}
 use Rattle.rules.specs.Cost.{isForced}
 use Rattle.rules.specs.Tree.{baseShares}
-use Rattle.rules.specs.Budget.{rowAt, queueAt, shareAt, entered, answerIn, submission, putLeaf, charged, noted, rowAfter, queueAfter, endsDonation, applied, settled, reshared, rebased}
-use Rattle.rules.specs.Refusals.{firstOf, wouldBe, submitChecks}
+use Rattle.rules.specs.Budget.{rowAt, queueAt, shareAt, entered, answerIn, submission, putLeaf, charged, noted, rowAfter, queueAfter, endsDonation, applied, settled, reshared, rebased, wouldBe}
+use Rattle.rules.specs.Refusals.{firstOf, submitChecks}
 use Rattle.rules.specs.Entries.{submittedBy, submitted}
 use Rattle.rules.specs.Invariant.{Sound}
-use Rattle.rules.specs.Laws.Bools.{true-not-false, exactly, is-true, and-not-right}
+use Rattle.rules.specs.Laws.Bools.{never, true-not-false, exactly, is-true, and-not-right}
 use Rattle.rules.specs.Laws.Sets.{has-none}
 use Rattle.rules.specs.Laws.Units.{relative-cost-is-enough}
 use Rattle.rules.specs.Laws.Costs.{SoundModel, priced-sound, cost-least}
@@ -38,7 +38,7 @@ pub record FirstInLine (b : Bio) (c : Controller) : Type 0 where
   pub affordable : Affordable b c
   pub none-waits : queueAt c (b .node) .len ≡ 0
 
-entered-active : (n : ℕ) (c : Controller) → has (c .active) n ≡ true → entered n c ≡ c
+pub entered-active : (n : ℕ) (c : Controller) → has (c .active) n ≡ true → entered n c ≡ c
 unfolding entered
 entered-active n c e = rw e
 
@@ -137,7 +137,7 @@ issued-is-accepted b c = go (firstOf (submitChecks b c))
   where
     go : (v : Verdict) → submittedBy v b c .answer ≡ Issued → v ≡ Accepted
     go Accepted i = refl
-    go (Refused x) i = let z : _≡_ {A = ℕ} 0 1 = cc in absurd (omega arith)
+    go (Refused x) i = never (cc)
 
 module _ {c : Controller} (s : Sound c) (b : Bio) where
   -- "the budget falls by it": every issued bio is charged at its leaf's share, and nothing else changes but the leaf's end
@@ -154,7 +154,7 @@ module _ {c : Controller} (s : Sound c) (b : Bio) where
   module _ (taken : firstOf (submitChecks b c) ≡ Accepted) where
     -- "If the bio waited or went on debt and the leaf is a donor, the donation ends"
     pub a-donor-that-waits-or-owes-ends-the-donation : has (c .donors) (b .node) ≡ true → endsDonation (submitted b c .answer) ≡ true
-        → (submitted b c .state .donors ≡ none) × (submitted b c .state .shares ≡ baseShares (c .tree) (c .active))
+        → (submitted b c .state .donors ≡ noNode) × (submitted b c .state .shares ≡ baseShares (c .tree) (c .active))
     unfolding settled applied rebased reshared
     a-donor-that-waits-or-owes-ends-the-donation donor ends =
         let on : has (c .active) (b .node) ≡ true = s .donors (b .node) donor .active in
@@ -165,11 +165,11 @@ module _ {c : Controller} (s : Sound c) (b : Bio) where
 
     -- "any donation ends and all base shares are worked out anew"
     pub an-activation-ends-the-donation : has (c .active) (b .node) ≡ false
-        → (submitted b c .state .donors ≡ none) × (submitted b c .state .shares ≡ baseShares (c .tree) (activeWith (b .node) c))
+        → (submitted b c .state .donors ≡ noNode) × (submitted b c .state .shares ≡ baseShares (c .tree) (activeWith (b .node) c))
     unfolding entered settled applied rebased reshared
     an-activation-ends-the-donation idle =
         let woken : entered (b .node) c ≡ rebased (activeWith (b .node) c) c = rw idle (activated-is (b .node) c (s .idle (b .node) idle .no-budget)) in
-        let none-donates : (endsDonation (wouldBe c b) && has none (b .node)) ≡ false = and-not-right (endsDonation (wouldBe c b)) (has none (b .node)) (has-none (b .node)) in (
+        let none-donates : (endsDonation (wouldBe c b) && has noNode (b .node)) ≡ false = and-not-right (endsDonation (wouldBe c b)) (has noNode (b .node)) (has-none (b .node)) in (
           ap (λ (d : Controller). d .donors) (answered-state b c taken ∙ ap (settled (wouldBe c b) b) woken) ∙ rw none-donates,
           ap (λ (d : Controller). d .shares) (answered-state b c taken ∙ ap (settled (wouldBe c b) b) woken) ∙ rw none-donates,
         )

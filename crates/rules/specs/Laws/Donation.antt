@@ -3,16 +3,17 @@
 use mathlib.Core.Path.{_≡_, refl, sym, ap, _∙_}
 use mathlib.Core.Bool.{Bool, true, false, cond, not, _&&_, _||_}
 use mathlib.Core.List.{List}
-use Prim.Native.Nat.{ℕ, zero, suc, _+_, _-_, _*_, _/_, _≤_, _<_}
-use native.Mathlib.Nat.{le-div-iff-mul-le, div-mul-le-self, le-of-mul-le-mul-right, mul-le-mul-left, mul-comm, le-trans}
+use Prim.Native.Nat.{ℕ, zero, suc, _+_, _-_, _*_, _≤_, _<_}
+use native.Mathlib.Nat.{le-div-iff-mul-le, div-mul-le-self, le-of-mul-le-mul-right, mul-le-mul-left, mul-comm}
 use native.Mathlib.Omega.{arith}
 use lib.ListN.{getD}
+use borrow.Author.Tests.{not-true}
 use Rattle.rules.specs.Numbers.{leafMost, nodesMost}
-use Rattle.rules.specs.Words.{sumTo, anyTo, table, has}
+use Rattle.rules.specs.Words.{sumTo, anyTo, has}
 use Rattle.rules.specs.Units.{FLOOR}
 use Rattle.rules.specs.Plan.{isTaker, isDonation, sumOver, takenOf, isLowest, remainder, shareGiven, donated}
 use Rattle.rules.specs.Laws.Bools.{and-left, and-right}
-use Rattle.rules.specs.Laws.Sums.{sum-cong, sum-le, sum-add, sum-floors, sum-in, any-in}
+use Rattle.rules.specs.Laws.Sums.{sum-cong, sum-le, sum-add, sum-floors, sum-in, any-in, any-out}
 use Rattle.rules.specs.Laws.Tables.{table-at}
 
 -- ---- what goes to the lowest of whom p holds goes to one
@@ -34,6 +35,29 @@ lowest-gets p x (suc m) = go (anyTo p m) (p (suc m)) refl (lowest-gets p x m)
     go true false e h = omega (arith, h)
     go false true e h = rw (before, e) (omega (arith, h))
     go false false e h = omega (arith, h)
+
+-- ---- a taker is active and no donor, and a donation has one of each
+module _ (active donors : ℕ) where
+  pub taker-active : (n : ℕ) → isTaker active donors n ≡ true → has active n ≡ true
+  unfolding isTaker
+  taker-active n e = and-left (has active n) (not (has donors n)) e
+
+  pub taker-no-donor : (n : ℕ) → isTaker active donors n ≡ true → has donors n ≡ false
+  unfolding isTaker
+  taker-no-donor n e = not-true (has donors n) (and-right (has active n) (not (has donors n)) e)
+
+  pub is-taker : (n : ℕ) → has active n ≡ true → has donors n ≡ false → isTaker active donors n ≡ true
+  unfolding isTaker
+  is-taker n e f = rw (e, f)
+
+  module _ (donation : isDonation active donors ≡ true) where
+    pub one-donor : (n : ℕ) × (0 < n) × (n ≤ leafMost) × (has donors n ≡ true)
+    unfolding isDonation
+    one-donor = any-out (has donors) leafMost (and-left (anyTo (has donors) leafMost) (anyTo (isTaker active donors) leafMost) donation)
+
+    pub one-taker : (n : ℕ) × (0 < n) × (n ≤ leafMost) × (isTaker active donors n ≡ true)
+    unfolding isDonation
+    one-taker = any-out (isTaker active donors) leafMost (and-right (anyTo (has donors) leafMost) (anyTo (isTaker active donors) leafMost) donation)
 
 -- ---- the sums of a donation, by their letters
 abbrev pub S : ℕ → List ℕ → ℕ

@@ -68,13 +68,6 @@ pub digits-most : (k n : ℕ) → n < 10 ^ suc k → length (digits n) ≤ suc k
 unfolding digits
 digits-most k n h = digits-in-most 20 k n h
 
-pub digits-least : (n : ℕ) → n < 2 ^ 64 → 0 < length (digits n)
-digits-least n f = go (ltb n 10) refl
-  where
-    go : (b : Bool) → ltb n 10 ≡ b → 0 < length (digits n)
-    go true e = rw (digits-short n (ltb-true n 10 e)) (omega arith)
-    go false e = rw (digits-long n (ltb-false n 10 e) f, length-append) (omega arith)
-
 -- ---- a line, written from its letter on
 pub line-one : (letter a : ℕ) → line letter (a ∷ []) ≡ ((letter ∷ []) ++ (32 ∷ digits a)) ++ (10 ∷ [])
 unfolding line

@@ -3,19 +3,18 @@
 use mathlib.Core.Path.{_≡_, refl}
 use mathlib.Core.Bool.{Bool, true, false, cond}
 use Prim.Native.Nat.{ℕ, _+_, _≤_}
-use native.Mathlib.Omega.{arith}
 use borrow.Author.Tests.{ltb-false, not-false}
 use Rattle.rules.specs.Numbers.{elapsedMost, vtimeMost, sinceMost, vrateLeast, vrateMost}
 use Rattle.rules.specs.Cost.{ratesInRange}
 use Rattle.rules.specs.Tree.{treeFault, isThin}
 use Rattle.rules.specs.Tick.{growth, waitingAll}
 use Rattle.rules.specs.Plan.{vrateInRange}
-use Rattle.rules.specs.Refusals.{firstOf, isFault, treeChecks, rateChecks, startChecks, tickChecks, vrateChecks}
-use Rattle.rules.specs.Laws.Bools.{between}
+use Rattle.rules.specs.Refusals.{firstOf, treeChecks, rateChecks, startChecks, tickChecks, vrateChecks}
+use Rattle.rules.specs.Laws.TreeVerdicts.{sound-when}
+use Rattle.rules.specs.Laws.Bools.{never, between}
 use Rattle.rules.specs.declared.cost.Rates.{Rates}
 use Rattle.rules.specs.declared.tree.Tree.{Tree}
-use Rattle.rules.specs.declared.tree.Fault.{Fault}
-use Rattle.rules.specs.declared.tree.Fault.the-variants.{Sound, Count, Parent, Weight, Level}
+use Rattle.rules.specs.declared.tree.Fault.the-variants.{Sound}
 use Rattle.rules.specs.declared.budget.Controller.{Controller}
 use Rattle.rules.specs.declared.refusals.Refusal.{Refusal}
 use Rattle.rules.specs.declared.refusals.Verdict.{Verdict}
@@ -23,7 +22,7 @@ use Rattle.rules.specs.declared.refusals.Verdict.the-variants.{Accepted,
 
 -- a check that would have refused did not hold
 pub check-passed : (b : Bool) (x : Refusal) (v : Verdict) → cond b (Refused x) v ≡ Accepted → (b ≡ false) × (v ≡ Accepted)
-check-passed true x v e = let z : _≡_ {A = ℕ} 0 1 = cc in absurd (omega arith)
+check-passed true x v e = never (cc)
 check-passed false x v e = (refl, e)
 
 -- ---- a tick
@@ -61,17 +60,10 @@ pub record StartPasses (t : Tree) (r : Rates) : Type 0 where
   pub thick : isThin t ≡ false
   pub rates : ratesInRange r ≡ true
 
-no-fault : (f : Fault) → isFault f ≡ false → f ≡ Sound
-no-fault Sound e = refl
-no-fault Count e = let z : _≡_ {A = ℕ} 0 1 = cc in absurd (omega arith)
-no-fault (Parent n) e = let z : _≡_ {A = ℕ} 0 1 = cc in absurd (omega arith)
-no-fault (Weight n) e = let z : _≡_ {A = ℕ} 0 1 = cc in absurd (omega arith)
-no-fault (Level n) e = let z : _≡_ {A = ℕ} 0 1 = cc in absurd (omega arith)
-
 pub start-passes : (t : Tree) (r : Rates) → firstOf (startChecks t r) ≡ Accepted → StartPasses t r
 unfolding startChecks treeChecks rateChecks
 start-passes t r e =
     let a = check-passed _ _ _ e in
     let b = check-passed _ _ _ (a .1) in
     let d = check-passed _ _ _ (b .1) in
-    record { tree = no-fault (treeFault t) (a .0); thick = b .0; rates = not-false _ (d .0) }
+    record { tree = sound-when (treeFault t) (a .0); thick = b .0; rates = not-false _ (d .0) }

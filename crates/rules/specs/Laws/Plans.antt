@@ -11,7 +11,7 @@ use lib.Dec.{ltb}
 use lib.ListN.{length, getD, List·getD-eq-default}
 use borrow.Author.Tests.{ne-eqb, ltb-true, not-true, lt-ltb, le-ltb}
 use Rattle.rules.specs.Numbers.{WHOLE, nodesMost, leafMost, shareFloor}
-use Rattle.rules.specs.Words.{sumTo, has, none}
+use Rattle.rules.specs.Words.{sumTo, has, noNode}
 use Rattle.rules.specs.Units.{abs, FLOOR, atWhole}
 use Rattle.rules.specs.Tree.{baseShares}
 use Rattle.rules.specs.Budget.{emptyRow, rowAt, queueAt, shareAt, withDebt, owes, waits, reshared}
@@ -24,10 +24,10 @@ use Rattle.rules.specs.Demand3.Ledger
 use Rattle.rules.specs.Laws.Bools.{true-not-false, is-false, and-left, and-right, and-not-right, or-neither, or-not-left, or-not-right}
 use Rattle.rules.specs.Laws.Sums.{sum-le, sum-none, sum-bound}
 use Rattle.rules.specs.Laws.Tables.{table-length, table-at, table-every}
-use Rattle.rules.specs.Laws.Sets.{has-none, has-setOf, set-small}
+use Rattle.rules.specs.Laws.Sets.{has-none, has-setOf, set-small, setOf-in}
 use Rattle.rules.specs.Laws.Trees.{Within}
 use Rattle.rules.specs.Laws.Answers.{owes-nothing, waits-for-nothing}
-use Rattle.rules.specs.Laws.Resharing.{set-member, set-stranger, reshared-row, resharing-saves-nothing, followed, SoundShares, SoundRoles, SoundBooks, books-of, resharing-keeps, active-node, base-shares-are-sound, donated-shares-are-sound}
+use Rattle.rules.specs.Laws.Resharing.{set-stranger, reshared-row, resharing-saves-nothing, followed, SoundShares, SoundRoles, SoundBooks, books-of, resharing-keeps, active-node, base-shares-are-sound, donated-shares-are-sound}
 use Rattle.rules.specs.declared.budget.Row.{Row}
 use Rattle.rules.specs.declared.budget.Queue.{Queue}
 use Rattle.rules.specs.declared.budget.Controller.{Controller}
@@ -141,7 +141,7 @@ module _ {c : Controller} (s : Sound c) (quiet : Bool) where
   unfolding activeAfter
   stays-active n e =
       and-left (has (c .active) n) (stays (forgiven quiet (rowAt c n)) (queueAt c n))
-      (set-member (λ k. has (c .active) k && stays (forgiven quiet (rowAt c k)) (queueAt c k)) n e)
+      (setOf-in (λ k. has (c .active) k && stays (forgiven quiet (rowAt c k)) (queueAt c k)) n e)
 
   pub after-within : Within (c .tree) (activeAfter quiet c)
   after-within n e = s .active n (stays-active n e)
@@ -160,13 +160,13 @@ module _ {c : Controller} (s : Sound c) (quiet : Bool) where
       go : (b : Bool) → has (c .active) n ≡ b → IdleLeaf (closedRow quiet false (rowAt c n)) (queueAt c n)
       go true f =
           let out : stays (forgiven quiet (rowAt c n)) (queueAt c n) ≡ false = leaves n f e in
-          let none-asked : (rowAt c n .asked || waits (queueAt c n)) ≡ false = or-not-left (rowAt c n .asked || waits (queueAt c n)) (owes (forgiven quiet (rowAt c n))) out in
+          let none-accepted : (rowAt c n .accepted || waits (queueAt c n)) ≡ false = or-not-left (rowAt c n .accepted || waits (queueAt c n)) (owes (forgiven quiet (rowAt c n))) out in
           record {
             no-budget = refl;
             no-debt =
                 owes-nothing (forgiven quiet (rowAt c n)) .0
-                (or-not-right (rowAt c n .asked || waits (queueAt c n)) (owes (forgiven quiet (rowAt c n))) out);
-            no-waiter = waits-for-nothing (queueAt c n) .0 (or-not-right (rowAt c n .asked) (waits (queueAt c n)) none-asked);
+                (or-not-right (rowAt c n .accepted || waits (queueAt c n)) (owes (forgiven quiet (rowAt c n))) out);
+            no-waiter = waits-for-nothing (queueAt c n) .0 (or-not-right (rowAt c n .accepted) (waits (queueAt c n)) none-accepted);
           }
       go false f = record {
         no-budget = refl;
@@ -184,7 +184,7 @@ module _ {c : Controller} (s : Sound c) (quiet : Bool) where
         → (has (activeAfter quiet c) n && isDonor (getD targets n 0) (getD bases n 0) (forgiven quiet (rowAt c n)) (queueAt c n)) ≡ true
     unfolding donorsIn
     donor-test n e =
-        set-member (λ k. has (activeAfter quiet c) k && isDonor (getD targets k 0) (getD bases k 0) (forgiven quiet (rowAt c k)) (queueAt c k)) n e
+        setOf-in (λ k. has (activeAfter quiet c) k && isDonor (getD targets k 0) (getD bases k 0) (forgiven quiet (rowAt c k)) (queueAt c k)) n e
 
     pub donor-active : (n : ℕ) → has (donorsIn quiet (activeAfter quiet c) bases targets c) n ≡ true → has (activeAfter quiet c) n ≡ true
     donor-active n e =
@@ -218,7 +218,7 @@ abbrev donates : Controller → Bool
 donates c = isDonation (activeThen c) (candidates c)
 
 abbrev donorsThen : Bool → Controller → ℕ
-donorsThen b c = cond b (candidates c) none
+donorsThen b c = cond b (candidates c) noNode
 
 abbrev sharesThen : Bool → Controller → List ℕ
 sharesThen b c = cond b (donated (activeThen c) (candidates c) (basesThen c) (targetsIn c)) (basesThen c)
@@ -234,7 +234,7 @@ unfolding plan shared
 plan-reshares c = go (donates c)
   where
     go : (b : Bool) → cond b (reshared (activeThen c) (candidates c) (donated (activeThen c) (candidates c) (basesThen c) (targetsIn c)) (booksThen c))
-        (reshared (activeThen c) none (basesThen c) (booksThen c))
+        (reshared (activeThen c) noNode (basesThen c) (booksThen c))
         ≡ planAs b c
     go true = refl
     go false = refl
@@ -384,7 +384,7 @@ module _ {c : Controller} (s : Sound c) where
   no-plan-clears-a-debt n p = omega (arith, plan-debt n, debt-never-cleared (quietIn c) (rowAt c n) p)
 
   pub a-leaf-goes-inactive-exactly-when : (n : ℕ) → has (c .active) n ≡ true
-      → (has (plan c .active) n ≡ false) ↔ ((rowAt c n .asked ≡ false) × (queueAt c n .len ≡ 0) × (rowAt c n .debt .0 ≡ 0))
+      → (has (plan c .active) n ≡ false) ↔ ((rowAt c n .accepted ≡ false) × (queueAt c n .len ≡ 0) × (rowAt c n .debt .0 ≡ 0))
   unfolding activeAfter
   a-leaf-goes-inactive-exactly-when n e = (λ out. there (rw plan-active at out), λ w. rw plan-active (back (w .0) (w .1) (w .2)))
     where
@@ -394,25 +394,25 @@ module _ {c : Controller} (s : Sound c) where
       q : Queue
       q = queueAt c n
 
-      there : has (activeThen c) n ≡ false → (r .asked ≡ false) × (q .len ≡ 0) × (r .debt .0 ≡ 0)
+      there : has (activeThen c) n ≡ false → (r .accepted ≡ false) × (q .len ≡ 0) × (r .debt .0 ≡ 0)
       there out =
           let no : stays (forgiven (quietIn c) r) q ≡ false = leaves s (quietIn c) n e out in
-          let still : (r .asked || waits q) ≡ false = or-not-left (r .asked || waits q) (owes (forgiven (quietIn c) r)) no in
+          let still : (r .accepted || waits q) ≡ false = or-not-left (r .accepted || waits q) (owes (forgiven (quietIn c) r)) no in
           let left : r .debt .0 - forgiveness (quietIn c) (r .debt) .0 ≡ 0 =
-          owes-nothing (forgiven (quietIn c) r) .0 (or-not-right (r .asked || waits q) (owes (forgiven (quietIn c) r)) no) in (
-            or-not-left (r .asked) (waits q) still,
-            waits-for-nothing q .0 (or-not-right (r .asked) (waits q) still),
+          owes-nothing (forgiven (quietIn c) r) .0 (or-not-right (r .accepted || waits q) (owes (forgiven (quietIn c) r)) no) in (
+            or-not-left (r .accepted) (waits q) still,
+            waits-for-nothing q .0 (or-not-right (r .accepted) (waits q) still),
             ⊎-elim
                 (λ (z : r .debt .0 ≡ 0). z)
                 (λ (p : 0 < r .debt .0). absurd (omega (arith, left, debt-never-cleared (quietIn c) r p)))
                 (eq-zero-or-pos (r .debt .0)),
           )
 
-      back : r .asked ≡ false → q .len ≡ 0 → r .debt .0 ≡ 0 → has (activeThen c) n ≡ false
+      back : r .accepted ≡ false → q .len ≡ 0 → r .debt .0 ≡ 0 → has (activeThen c) n ≡ false
       back a w d =
           has-setOf (λ k. has (c .active) k && stays (forgiven (quietIn c) (rowAt c k)) (queueAt c k)) n (was-node s (quietIn c) n e)
           ∙ and-not-right (has (c .active) n) (stays (forgiven (quietIn c) r) q)
-          (or-neither (r .asked || waits q) (owes (forgiven (quietIn c) r)) (or-neither (r .asked) (waits q) a (waits-for-nothing q .1 w))
+          (or-neither (r .accepted || waits q) (owes (forgiven (quietIn c) r)) (or-neither (r .accepted) (waits q) a (waits-for-nothing q .1 w))
           (owes-nothing (forgiven (quietIn c) r) .1 (omega arith)))
 
   pub no-plan-wakes-a-leaf : (n : ℕ) → has (c .active) n ≡ false → has (plan c .active) n ≡ false

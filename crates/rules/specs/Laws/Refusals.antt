@@ -4,8 +4,7 @@ use mathlib.Core.Path.{_≡_, refl}
 use mathlib.Core.List.{List, [], _∷_}
 use Prim.Native.Nat.{ℕ}
 use lib.ListN.{length}
-use Rattle.rules.specs.Cost.{isForced}
-use Rattle.rules.specs.Budget.{answerIn, submission}
+use Rattle.rules.specs.Budget.{wouldBe, submission}
 use Rattle.rules.specs.Refusals.{numbersOf, firstOf, verdictNumber, answerNumber, countNumber, pricingNumber, costingNumber, treeChecks, nodeChecks, rateChecks, startChecks, costChecks, roomChecks, submitChecks, tickChecks, planChecks, vrateChecks}
 use Rattle.rules.specs.Entries.{pricingBy, pricing, costingBy, costing, startedBy, started, submittedBy, submitted, tickedBy, ticked, plannedBy, planned, vratedBy, vrated}
 use Rattle.rules.specs.Laws.Answers.{answer-is-no-refusal}
@@ -78,11 +77,11 @@ no-refusal OnDebt h = refl
 no-refusal (Declined x) h = absurd (h x refl)
 
 pub submit-number : (b : Bio) (c : Controller) → answerNumber (submitted b c .answer) ≡ verdictNumber (firstOf (submitChecks b c))
-unfolding submitted submittedBy submission answerIn
+unfolding submitted submittedBy submission
 submit-number b c = go (firstOf (submitChecks b c))
   where
     go : (v : Verdict) → answerNumber (submittedBy v b c .answer) ≡ verdictNumber v
-    go Accepted = no-refusal (submission b c .answer) (answer-is-no-refusal _ _ _ _ (isForced b))
+    go Accepted = no-refusal (wouldBe c b) (answer-is-no-refusal c b)
     go (Refused x) = refl
 
 pub tick-number : (time : ℕ) (lent : List ℕ) (c : Controller)

@@ -10,14 +10,14 @@ use lib.Dec.{eqb, leb, ltb}
 use lib.ListN.{length}
 use borrow.Author.Tests.{ltb-true, ltb-false, lt-ltb, le-ltb, eqb-true, eq-eqb, not-true, not-false}
 use Rattle.rules.specs.Numbers.{queueRoom, costMost, debtMost, elapsedMost, vtimeMost, sinceMost, vrateLeast, vrateMost}
-use Rattle.rules.specs.Cost.{ratesInRange, bioInRange, isForced}
+use Rattle.rules.specs.Cost.{ratesInRange, bioInRange}
 use Rattle.rules.specs.Tree.{isLeaf, treeFault, isThin}
-use Rattle.rules.specs.Budget.{fresh, rowAt, queueAt, answerIn, submission}
+use Rattle.rules.specs.Budget.{fresh, rowAt, queueAt, submission, wouldBe}
 use Rattle.rules.specs.Tick.{growth, waitingAll}
 use Rattle.rules.specs.Plan.{vrateInRange}
-use Rattle.rules.specs.Refusals.{Check, _⇒_, firstOf, isFault, isWait, isDebt, wouldBe, costChecks, roomChecks, submitChecks, tickChecks, planChecks, vrateChecks, treeChecks, rateChecks, startChecks}
+use Rattle.rules.specs.Refusals.{Check, _⇒_, firstOf, isFault, isWait, isDebt, costChecks, roomChecks, submitChecks, tickChecks, planChecks, vrateChecks, treeChecks, rateChecks, startChecks}
 use Rattle.rules.specs.Entries.{submittedBy, submitted, tickedBy, ticked, lentBy, lentOf, plannedBy, planned, vratedBy, vrated, startedBy, started, noTree, slowestModel}
-use Rattle.rules.specs.Laws.Bools.{true-not-false, exactly, exactly-both, exactly-not, at-most, between}
+use Rattle.rules.specs.Laws.Bools.{never, true-not-false, exactly, exactly-both, exactly-not, at-most, between}
 use Rattle.rules.specs.Laws.Costs.{BioInRange, bio-in-range, RatesInRange, rates-in-range}
 use Rattle.rules.specs.Laws.Answers.{answer-is-no-refusal}
 use Rattle.rules.specs.Laws.Verdicts.{lacks, accepted-is-not-refused, not-given, given-exactly-when}
@@ -38,11 +38,11 @@ use Rattle.rules.specs.declared.refusals.Count.the-variants.{Refused as 
 
 -- ---- the refusals of a submission
 pub submit-refuses-exactly-when : (b : Bio) (c : Controller) (x : Refusal) → (submitted b c .answer ≡ Declined x) ↔ (firstOf (submitChecks b c) ≡ Refused x)
-unfolding submitted submittedBy submission answerIn
+unfolding submitted submittedBy submission
 submit-refuses-exactly-when b c x = go (firstOf (submitChecks b c))
   where
     go : (v : Verdict) → (submittedBy v b c .answer ≡ Declined x) ↔ (v ≡ Refused x)
-    go Accepted = (λ e. absurd (answer-is-no-refusal _ _ _ _ (isForced b) x e), λ e. absurd (accepted-is-not-refused x e))
+    go Accepted = (λ e. absurd (answer-is-no-refusal c b x e), λ e. absurd (accepted-is-not-refused x e))
     go (Refused y) = (λ e. cc, λ e. cc)
 
 not-test : (t : Bool) → (not t ≡ false) ↔ (t ≡ true)
@@ -52,16 +52,16 @@ above-test : (a b : ℕ) → (ltb a b ≡ true) ↔ (a < b)
 above-test a b = (ltb-true a b, lt-ltb a b)
 
 wait-test : (a : Answer) → (isWait a ≡ true) ↔ (a ≡ Waits)
-wait-test Issued = (λ e. absurd (true-not-false e refl), λ e. absurd (let z : _≡_ {A = ℕ} 0 1 = cc in omega arith))
+wait-test Issued = (λ e. absurd (true-not-false e refl), λ e. never (cc))
 wait-test Waits = (λ e. refl, λ e. refl)
-wait-test OnDebt = (λ e. absurd (true-not-false e refl), λ e. absurd (let z : _≡_ {A = ℕ} 0 1 = cc in omega arith))
-wait-test (Declined x) = (λ e. absurd (true-not-false e refl), λ e. absurd (let z : _≡_ {A = ℕ} 0 1 = cc in omega arith))
+wait-test OnDebt = (λ e. absurd (true-not-false e refl), λ e. never (cc))
+wait-test (Declined x) = (λ e. absurd (true-not-false e refl), λ e. never (cc))
 
 debt-test : (a : Answer) → (isDebt a ≡ true) ↔ (a ≡ OnDebt)
-debt-test Issued = (λ e. absurd (true-not-false e refl), λ e. absurd (let z : _≡_ {A = ℕ} 0 1 = cc in omega arith))
-debt-test Waits = (λ e. absurd (true-not-false e refl), λ e. absurd (let z : _≡_ {A = ℕ} 0 1 = cc in omega arith))
+debt-test Issued = (λ e. absurd (true-not-false e refl), λ e. never (cc))
+debt-test Waits = (λ e. absurd (true-not-false e refl), λ e. never (cc))
 debt-test OnDebt = (λ e. refl, λ e. refl)
-debt-test (Declined x) = (λ e. absurd (true-not-false e refl), λ e. absurd (let z : _≡_ {A = ℕ} 0 1 = cc in omega arith))
+debt-test (Declined x) = (λ e. absurd (true-not-false e refl), λ e. never (cc))
 
 -- an answer that is a debt is no wait
 debt-no-wait : (a : Answer) (len : ℕ) → a ≡ OnDebt → (isWait a && leb queueRoom len) ≡ false
@@ -158,7 +158,7 @@ unfolding ticked tickedBy
 tick-refuses-exactly-when time lent c x = go (firstOf (tickChecks time (length lent) c))
   where
     go : (v : Verdict) → (tickedBy v time c .answer ≡ Unticked x) ↔ (v ≡ Refused x)
-    go Accepted = (λ e. absurd (let z : _≡_ {A = ℕ} 0 1 = cc in omega arith), λ e. absurd (accepted-is-not-refused x e))
+    go Accepted = (λ e. never (cc), λ e. absurd (accepted-is-not-refused x e))
     go (Refused y) = (λ e. cc, λ e. cc)
 
 module _ (time : ℕ) (lent : List ℕ) (c : Controller) where
@@ -280,10 +280,10 @@ start-refuses t r time x = go (firstOf (startChecks t r))
 
 fault-test : (f : Fault) → (isFault f ≡ false) ↔ (f ≡ NoFault)
 fault-test NoFault = (λ e. refl, λ e. refl)
-fault-test Count = (λ e. absurd (true-not-false refl e), λ e. absurd (let z : _≡_ {A = ℕ} 0 1 = cc in omega arith))
-fault-test (Parent n) = (λ e. absurd (true-not-false refl e), λ e. absurd (let z : _≡_ {A = ℕ} 0 1 = cc in omega arith))
-fault-test (Weight n) = (λ e. absurd (true-not-false refl e), λ e. absurd (let z : _≡_ {A = ℕ} 0 1 = cc in omega arith))
-fault-test (Level n) = (λ e. absurd (true-not-false refl e), λ e. absurd (let z : _≡_ {A = ℕ} 0 1 = cc in omega arith))
+fault-test Count = (λ e. absurd (true-not-false refl e), λ e. never (cc))
+fault-test (Parent n) = (λ e. absurd (true-not-false refl e), λ e. never (cc))
+fault-test (Weight n) = (λ e. absurd (true-not-false refl e), λ e. never (cc))
+fault-test (Level n) = (λ e. absurd (true-not-false refl e), λ e. never (cc))
 
 fault-given : (f g : Fault) (rest : List Check) → lacks 1 rest ≡ true
     → (firstOf ((isFault g ⇒ BadTree g) ∷ rest) ≡ Refused (BadTree f)) ↔ ((g ≡ f) × (isFault f ≡ true))

@@ -3,13 +3,13 @@
 use mathlib.Core.Path.{_≡_, refl}
 use mathlib.Core.Bool.{Bool, true, false, cond}
 use mathlib.Core.Logic.{⊎-elim}
-use Prim.Native.Nat.{ℕ, zero, suc, _-_, _≤_, _<_}
+use Prim.Native.Nat.{ℕ, _-_, _≤_, _<_}
 use native.Mathlib.Nat.{eq-or-lt-of-le}
 use native.Mathlib.Omega.{arith}
 use lib.Dec.{leb}
 use lib.ListN.{getD}
 use lib.Seq.{getD-set-other}
-use borrow.Author.Tests.{leb-true, leb-false}
+use borrow.Author.Tests.{leb-true}
 use Rattle.rules.specs.Numbers.{nodesMost}
 use Rattle.rules.specs.Tree.{parent, last, nodeFault, newestFault, countInRange, treeFault}
 use Rattle.rules.specs.Refusals.{firstOf, nodeChecks, rateChecks, treeChecks, startChecks}
@@ -17,8 +17,9 @@ use Rattle.rules.specs.Entries.{noTree, slowest, started, startedBy, sub
 use Rattle.rules.specs.Trace.{kindOf}
 use Rattle.rules.specs.Replay.{inPhase, isStopped, within, stopsAt, silent, beginning, grown, allRoom, nodeStep, modelStep, startStep, recordStep, readStep, stepped}
 use Rattle.rules.specs.Invariant.{Sound, Playing}
-use Rattle.rules.specs.Laws.Bools.{is-false}
+use Rattle.rules.specs.Laws.Bools.{never}
 use Rattle.rules.specs.Laws.Passes.{check-passed}
+use Rattle.rules.specs.Laws.Trees.{parent-is, node-sound}
 use Rattle.rules.specs.Laws.TreeVerdicts.{sound-when}
 use Rattle.rules.specs.Laws.Starts.{start-gives, vrate-keeps}
 use Rattle.rules.specs.Laws.Submits.{submit-keeps}
@@ -26,7 +27,7 @@ use Rattle.rules.specs.Laws.Ticks.{ticked-keeps}
 use Rattle.rules.specs.Laws.Plans.{planned-keeps}
 use Rattle.rules.specs.declared.cost.Rates.{Rates}
 use Rattle.rules.specs.declared.tree.Tree.{Tree}
-use Rattle.rules.specs.declared.tree.Fault.the-variants.{Sound as NoFault, Count, Parent}
+use Rattle.rules.specs.declared.tree.Fault.the-variants.{Sound as NoFault, Count}
 use Rattle.rules.specs.declared.budget.Controller.{Controller}
 use Rattle.rules.specs.declared.refusals.Refusal.{Refusal}
 use Rattle.rules.specs.declared.refusals.Refusal.the-variants.{WrongPhase}
@@ -55,12 +56,6 @@ beginning-plays = record {
 }
 
 -- ---- a node more: those before it keep their parents, and an accepted one has a parent before it
-climbs-when-faultless : (t : Tree) (n : ℕ) → nodeFault t n ≡ NoFault → parent t n < n
-unfolding nodeFault
-climbs-when-faultless t n e =
-    leb-false n (parent t n)
-    (is-false (leb n (parent t n)) (λ no. let f : Parent n ≡ NoFault = rw no at e in let z : _≡_ {A = ℕ} 0 1 = cc in omega arith))
-
 -- what an accepted node record has passed
 accepted-newest : (t : Tree) → firstOf (nodeChecks t) ≡ Accepted → (t .count ≤ nodesMost) × (parent t (last t) < last t)
 unfolding nodeChecks newestFault
@@ -68,13 +63,8 @@ accepted-newest t e = go (leb (t .count) nodesMost) refl (sound-when (newestFaul
   where
     go : (b : Bool) → leb (t .count) nodesMost ≡ b → cond b (nodeFault t (last t)) Count ≡ NoFault
         → (t .count ≤ nodesMost) × (parent t (last t) < last t)
-    go true l f = (leb-true (t .count) nodesMost l, climbs-when-faultless t (last t) f)
-    go false l f = let z : _≡_ {A = ℕ} 0 1 = cc in absurd (omega arith)
-
-parent-is : (t : Tree) (n : ℕ) → 0 < n → parent t n ≡ getD (t .parents) n 0
-unfolding parent
-parent-is t zero a = absurd (omega arith)
-parent-is t (suc n) a = refl
+    go true l f = (leb-true (t .count) nodesMost l, node-sound t (last t) f .up)
+    go false l f = never (cc)
 
 module _ {s : Replay} (h : Playing s) where
   -- what the check of a new node asks of the nodes before it

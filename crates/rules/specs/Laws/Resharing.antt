@@ -1,7 +1,7 @@
 -- The rule for rising shares over the whole state, the shares that stand after a call, and that changed shares keep the invariant.
 -- Assumes nothing.
 use mathlib.Core.Path.{_≡_, refl, sym, ap, _∙_}
-use mathlib.Core.Bool.{Bool, true, false, cond, not, _||_}
+use mathlib.Core.Bool.{Bool, true, false, cond, _||_}
 use mathlib.Core.List.{List}
 use mathlib.Core.Logic.{_⊎_, inl, inr, dite}
 use Prim.Native.Nat.{ℕ, _+_, _*_, _^_, _≤_, _<_}
@@ -13,21 +13,21 @@ use lib.ListN.{length, getD, List·getD-eq-default}
 use lib.Seq.{set-getD}
 use borrow.Author.Tests.{eqb-true, eq-eqb}
 use Rattle.rules.specs.Numbers.{WHOLE, nodesMost, leafMost, shareFloor}
-use Rattle.rules.specs.Words.{sumTo, anyTo, has, setOf, none}
+use Rattle.rules.specs.Words.{sumTo, has, setOf, noNode}
 use Rattle.rules.specs.Units.{virt}
 use Rattle.rules.specs.Tree.{leavesOf, baseShare, baseShares, isThin, isLeaf}
 use Rattle.rules.specs.Budget.{emptyRow, emptyQueue, rowAt, queueAt, shareAt, putLeaf, withBudget, rebudget, reshared, rebased, activated, entered}
 use Rattle.rules.specs.Plan.{isTaker, isDonation, sumOver, donated}
 use Rattle.rules.specs.Invariant.{worthMost, PricedModel, SoundClock, SoundRow, SoundQueue, IdleLeaf, Sound}
 use Rattle.rules.specs.Demand3.Ledger.{saved}
-use Rattle.rules.specs.Laws.Bools.{true-not-false, and-left, and-right, or-left, or-right, or-cases, is-false}
-use Rattle.rules.specs.Laws.Sums.{sum-le, sum-cong, any-out}
+use Rattle.rules.specs.Laws.Bools.{true-not-false, or-left, or-right, or-cases, is-false}
+use Rattle.rules.specs.Laws.Sums.{sum-le, sum-cong}
 use Rattle.rules.specs.Laws.Tables.{table-length, table-every}
-use Rattle.rules.specs.Laws.Sets.{has-none, has-setOf, setOf-past, set-small}
+use Rattle.rules.specs.Laws.Sets.{has-none, has-setOf, setOf-in, set-small}
 use Rattle.rules.specs.Laws.Units.{rescaling-never-raises, rescaling-adds-no-budget}
 use Rattle.rules.specs.Laws.Trees.{SoundTree, Within, leaf-last, last-most}
 use Rattle.rules.specs.Laws.Shares.{no-base-share, base-shares-length, not-thin-keeps-the-floor}
-use Rattle.rules.specs.Laws.Donation.{S, donor-gets-its-target, idle-gets-nothing, donation-keeps-the-sum, no-taker-below-base}
+use Rattle.rules.specs.Laws.Donation.{S, taker-active, is-taker, one-donor, one-taker, donor-gets-its-target, idle-gets-nothing, donation-keeps-the-sum, no-taker-below-base}
 use Rattle.rules.specs.declared.units.Virt.{Virt}
 use Rattle.rules.specs.declared.tree.Tree.{Tree}
 use Rattle.rules.specs.declared.budget.Row.{Row}
@@ -38,10 +38,7 @@ use Rattle.rules.specs.declared.budget.Controller.{Controller}
 pub node-or-past : {P : Type 0} (n : ℕ) → (n < nodesMost → P) → (nodesMost ≤ n → P) → P
 node-or-past n f g = dite (decLt n nodesMost) f (λ h. g (le-of-suc-le-suc (lt-of-not-le h)))
 
--- ---- members of a set that is made by a test
-pub set-member : (p : ℕ → Bool) (n : ℕ) → has (setOf p) n ≡ true → p n ≡ true
-set-member p n e = node-or-past n (λ l. sym (has-setOf p n l) ∙ e) (λ l. absurd (true-not-false e (setOf-past p n l)))
-
+-- ---- who is no member of a set that is made by a test
 pub set-stranger : (p : ℕ → Bool) (n : ℕ) → n < nodesMost → has (setOf p) n ≡ false → p n ≡ false
 set-stranger p n l e = sym (has-setOf p n l) ∙ e
 
@@ -84,7 +81,7 @@ pub record SoundShares (t : Tree) (active donors : ℕ) (shares : List ℕ) : Ty
   pub sum : sumTo (λ n. getD shares n 0) leafMost ≡ sumTo (baseShare t active) leafMost
   pub taker : (n : ℕ) → has active n ≡ true → has donors n ≡ false → baseShare t active n ≤ getD shares n 0
   pub donor : (n : ℕ) → has donors n ≡ true → getD shares n 0 < baseShare t active n
-  pub no-donation : donors ≡ none → shares ≡ baseShares t active
+  pub no-donation : donors ≡ noNode → shares ≡ baseShares t active
 
 pub record FreeLeaf (r : Row) (q : Queue) : Type 0 where
   pub no-debt : r .debt .0 ≡ 0
@@ -241,7 +238,7 @@ module _ {t : Tree} (sound : SoundTree t) (active : ℕ) (within : Within t acti
 
   module _ (thick : isThin t ≡ false) where
     -- "base shares stand"
-    pub base-shares-are-sound : SoundShares t active none (baseShares t active)
+    pub base-shares-are-sound : SoundShares t active noNode (baseShares t active)
     base-shares-are-sound = record {
       all = base-shares-length t active;
       floor = λ n e. rw (base-shares-each n) (not-thin-keeps-the-floor sound thick active n within e);
@@ -258,21 +255,8 @@ module _ {t : Tree} (sound : SoundTree t) (active : ℕ) (within : Within t acti
         (lower : (n : ℕ) → has donors n ≡ true → getD targets n 0 < getD (baseShares t active) n 0)
         (donation : isDonation active donors ≡ true)
       where
-        some-donor : (n : ℕ) × (0 < n) × (n ≤ leafMost) × (has donors n ≡ true)
-        unfolding isDonation
-        some-donor = any-out (has donors) leafMost (and-left (anyTo (has donors) leafMost) (anyTo (isTaker active donors) leafMost) donation)
-
         some-taker : (n : ℕ) × (0 < n) × (n ≤ leafMost) × (isTaker active donors n ≡ true)
-        unfolding isDonation
-        some-taker = any-out (isTaker active donors) leafMost (and-right (anyTo (has donors) leafMost) (anyTo (isTaker active donors) leafMost) donation)
-
-        taker-active : (n : ℕ) → isTaker active donors n ≡ true → has active n ≡ true
-        unfolding isTaker
-        taker-active n e = and-left (has active n) (not (has donors n)) e
-
-        is-taker : (n : ℕ) → has active n ≡ true → has donors n ≡ false → isTaker active donors n ≡ true
-        unfolding isTaker
-        is-taker n e f = rw (e, f)
+        some-taker = one-taker active donors donation
 
         at-most : (n : ℕ) → has donors n ≡ true → getD targets n 0 ≤ getD (baseShares t active) n 0
         at-most n e = omega (arith, lower n e)
@@ -282,14 +266,14 @@ module _ {t : Tree} (sound : SoundTree t) (active : ℕ) (within : Within t acti
             omega (
               arith,
               base-shares-each (some-taker .0),
-              not-thin-keeps-the-floor sound thick active (some-taker .0) within (taker-active (some-taker .0) (some-taker .3)),
+              not-thin-keeps-the-floor sound thick active (some-taker .0) within (taker-active active donors (some-taker .0) (some-taker .3)),
             )
 
         no-less : (n : ℕ) → has active n ≡ true → has donors n ≡ false
             → baseShare t active n ≤ getD (donated active donors (baseShares t active) targets) n 0
         no-less n e f =
             rw (base-shares-each n) at
-            (no-taker-below-base active donors (baseShares t active) targets sub at-most (some-taker .0) (some-taker .1) (some-taker .2) (some-taker .3) pos n (active-node n e) (is-taker n e f))
+            (no-taker-below-base active donors (baseShares t active) targets sub at-most (some-taker .0) (some-taker .1) (some-taker .2) (some-taker .3) pos n (active-node n e) (is-taker active donors n e f))
 
         bases-sum : S active (baseShares t active) ≡ sumTo (baseShare t active) leafMost
         unfolding sumOver
@@ -322,7 +306,7 @@ module _ {t : Tree} (sound : SoundTree t) (active : ℕ) (within : Within t acti
               ∙ bases-sum;
           taker = no-less;
           donor = λ n e. rw (target-is n e, ← base-shares-each n) (lower n e);
-          no-donation = λ e. absurd (true-not-false (some-donor .3) (ap (λ (d : ℕ). has d (some-donor .0)) e ∙ has-none (some-donor .0)));
+          no-donation = λ e. absurd (true-not-false (one-donor active donors donation .3) (ap (λ (d : ℕ). has d (one-donor active donors donation .0)) e ∙ has-none (one-donor active donors donation .0)));
         }
           where
             go : (n : ℕ) → has active n ≡ true → (d : Bool) → has donors n ≡ d → shareFloor ≤ getD (donated active donors (baseShares t active) targets) n 0
@@ -330,10 +314,10 @@ module _ {t : Tree} (sound : SoundTree t) (active : ℕ) (within : Within t acti
             go n e false f = le-trans (not-thin-keeps-the-floor sound thick active n within e) (no-less n e f)
 
 -- "all return to base shares", "all base shares are worked out anew"
-pub rebasing-keeps : {c : Controller} → SoundBooks c → (active : ℕ) → SoundRoles c active none → Sound (rebased active c)
+pub rebasing-keeps : {c : Controller} → SoundBooks c → (active : ℕ) → SoundRoles c active noNode → Sound (rebased active c)
 unfolding rebased
 rebasing-keeps {c} b active r =
-    resharing-keeps b active none (baseShares (c .tree) active) r (base-shares-are-sound (b .tree) active (r .leaves) (b .thick))
+    resharing-keeps b active noNode (baseShares (c .tree) active) r (base-shares-are-sound (b .tree) active (r .leaves) (b .thick))
 
 -- ---- what other shares leave as it is: all but who is active, who donates, the shares and the budgets
 pub record Reweighed (c c′ : Controller) : Type 0 where
@@ -370,7 +354,7 @@ resharing-reweighs active donors shares c all = record {
 
 pub rebasing-reweighs : (active : ℕ) (c : Controller) → length (c .rows) ≡ nodesMost → Reweighed c (rebased active c)
 unfolding rebased
-rebasing-reweighs active c all = resharing-reweighs active none (baseShares (c .tree) active) c all
+rebasing-reweighs active c all = resharing-reweighs active noNode (baseShares (c .tree) active) c all
 
 pub active-of-rebased : (active : ℕ) (c : Controller) → rebased active c .active ≡ active
 unfolding rebased reshared
@@ -390,7 +374,7 @@ activated-is n c e =
     rw (same, put-back n c)
 
 module _ {c : Controller} (s : Sound c) (n : ℕ) where
-  activation-roles : isLeaf (c .tree) n ≡ true → SoundRoles c (activeWith n c) none
+  activation-roles : isLeaf (c .tree) n ≡ true → SoundRoles c (activeWith n c) noNode
   activation-roles leaf = record {
     active-fits = set-small (λ k. has (c .active) k || eqb k n) nodesMost;
     donors-fit = omega arith;
@@ -401,7 +385,7 @@ module _ {c : Controller} (s : Sound c) (n : ℕ) where
   }
     where
       member : (k : ℕ) → has (activeWith n c) k ≡ true → (has (c .active) k || eqb k n) ≡ true
-      member k e = set-member (λ j. has (c .active) j || eqb j n) k e
+      member k e = setOf-in (λ j. has (c .active) j || eqb j n) k e
 
       within : (k : ℕ) → (has (c .active) k ≡ true) ⊎ (eqb k n ≡ true) → isLeaf (c .tree) k ≡ true
       within k (inl e) = s .active k e

@@ -33,10 +33,10 @@ pub record Pays (share x : ℕ) (r r′ : Row) : Type 0 where
   pub usage : r′ .usage .0 ≡ r .usage .0 + x
   pub end : r′ .end ≡ r .end
   pub begun : r′ .begun ≡ r .begun
-  pub asked : r′ .asked ≡ r .asked
+  pub accepted : r′ .accepted ≡ r .accepted
 
 pub pays-nothing : (share : ℕ) (r : Row) → Pays share 0 r r
-pays-nothing share r = record { worth = omega arith; usage = omega arith; end = refl; begun = refl; asked = refl }
+pays-nothing share r = record { worth = omega arith; usage = omega arith; end = refl; begun = refl; accepted = refl }
 
 pub pays-then : {share x y : ℕ} {a b c : Row} → Pays share x a b → Pays share y b c → Pays share (x + y) a c
 pays-then {share} {x} {y} {a} {b} {c} p q = record {
@@ -44,7 +44,7 @@ pays-then {share} {x} {y} {a} {b} {c} p q = record {
   usage = omega (arith, p .usage, q .usage);
   end = q .end ∙ p .end;
   begun = q .begun ∙ p .begun;
-  asked = q .asked ∙ p .asked;
+  accepted = q .accepted ∙ p .accepted;
 }
 
 -- ---- a charge
@@ -62,7 +62,7 @@ charge-pays cost share r p l = record {
   usage = refl;
   end = refl;
   begun = refl;
-  asked = refl;
+  accepted = refl;
 }
 
 pub fitting-charge-pays : (cost : Abs) (share : ℕ) (r : Row) → 0 < share → fits cost share r ≡ true
@@ -135,7 +135,7 @@ module _ (share : ℕ) (r : Row) (p : 0 < share) where
       go : (t : Bool) → owes r ≡ t → Pays share (repayment share r .0) r (cond t (repaying share r) r)
       go true e =
           let w = charge-pays (repayment share r) share r p (repayment-is-affordable share r p) in
-          record { worth = w .worth; usage = w .usage; end = refl; begun = refl; asked = refl }
+          record { worth = w .worth; usage = w .usage; end = refl; begun = refl; accepted = refl }
       go false e =
           let z : repayment share r .0 ≡ 0 = repayment-of-nothing share r (omega (arith, ltb-false 0 (r .debt .0) e)) in
           rw z (pays-nothing share r)
@@ -319,7 +319,7 @@ capped-pays share r q = go (isCapped r q) refl
           usage = omega arith;
           end = refl;
           begun = refl;
-          asked = refl;
+          accepted = refl;
         }
     go false e = pays-nothing share r
 
@@ -403,7 +403,7 @@ module _ (g : Virt) (share : ℕ) (r : Row) (q : Queue) (p : 0 < share) (s : sha
           usage = omega (arith, all .usage);
           end = all .end;
           begun = all .begun;
-          asked = all .asked;
+          accepted = all .accepted;
         };
         debt =
             omega (
@@ -424,10 +424,6 @@ module _ (g : Virt) (share : ℕ) (r : Row) (q : Queue) (p : 0 < share) (s : sha
   turn-row-sound w =
       let k = turn-keeps in
       record { debt-most = omega (arith, k .debt, w .debt-most); end-most = rw (k .pays .end) (w .end-most) }
-
-  -- a leaf that owes nothing and has no waiter still owes nothing and has none
-  pub turn-stays-free : r .debt .0 ≡ 0 → q .len ≡ 0 → (turn g share r q .row .debt .0 ≡ 0) × (turn g share r q .queue .len ≡ 0)
-  turn-stays-free d n = let k = turn-keeps in (omega (arith, k .debt), omega (arith, k .left))
 
   -- what a turn charges is paid from what was saved and what came in
   pub turn-flow : (repayment share (gained g r) .0 + costOfFirst q (length (turn g share r q .ids))) * WHOLE + turn g share r q .row .budget .0 * share

@@ -1,12 +1,12 @@
 -- Calls in a row are steps of a part, one after the other: what they print and where they end is what the part's turns do.
 -- Assumes nothing.
-use mathlib.Core.Path.{_≡_, refl, sym, ap, _∙_}
+use mathlib.Core.Path.{_≡_, refl, ap, _∙_}
 use mathlib.Core.Bool.{Bool, true, false, cond, _&&_}
-use mathlib.Core.List.{List, [], _++_, append-assoc}
+use mathlib.Core.List.{List, append-assoc}
 use Prim.Native.Nat.{ℕ, zero, suc, _+_, _-_, _≤_, _<_}
 use native.Mathlib.Nat.{sub-zero, sub-add-eq}
 use native.Mathlib.Omega.{arith}
-use lib.Dec.{leb, ltb}
+use lib.Dec.{leb}
 use lib.ListN.{length, length-append}
 use borrow.Author.Tests.{leb-true, le-leb, le-ltb}
 use Rattle.rules.specs.Numbers.{lineRoom}
@@ -15,7 +15,7 @@ use Rattle.rules.specs.Replay.{within, goesOn, inPhase, isStopped, allRo
 use Rattle.rules.specs.Chunks.{isEnd, isCut, wantsBytes, halts, printedBefore, partFrom, callOf, isCall, isRunning, runs, calling, Run, still, calledBefore, runFrom}
 use Rattle.rules.specs.Invariant.{Sound}
 use Rattle.rules.specs.Laws.Bools.{true-not-false, and-left, and-right}
-use Rattle.rules.specs.Laws.Chunks.{stepAt, nextAt}
+use Rattle.rules.specs.Laws.Chunks.{nextAt}
 use Rattle.rules.specs.Laws.Trace.{found-only-whole}
 use Rattle.rules.specs.Laws.Starts.{vrate-keeps}
 use Rattle.rules.specs.Laws.Submits.{submit-keeps}

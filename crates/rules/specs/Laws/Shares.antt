@@ -20,7 +20,7 @@ use Rattle.rules.specs.Laws.Sums.{sum-le, sum-add, sum-none, sum-past, s
 use Rattle.rules.specs.Laws.Tables.{table-length, table-at}
 use Rattle.rules.specs.Laws.Trees.{SoundTree, root-no-leaf, Within, leaf-pos, leaf-last, leaf-childless, leaves-are, last-most}
 use Rattle.rules.specs.Laws.Trees.{active-leaf, active-up, active-more, active-child, root-active, leaf-active, child-in, share-root}
-use Rattle.rules.specs.Laws.Trees.{share-step, share-le}
+use Rattle.rules.specs.Laws.Trees.{share-step}
 
 -- the share of an active node, and 1 for an active node
 abbrev held : Tree → ℕ → ℕ → ℕ
@@ -214,16 +214,6 @@ base-shares-length t active = table-length (baseShare t active)
 pub base-shares-at : (t : Tree) (active n : ℕ) → n < nodesMost → getD (baseShares t active) n 0 ≡ baseShare t active n
 unfolding baseShares
 base-shares-at t active n l = table-at (baseShare t active) n 0 l
-
-pub base-share-most : {t : Tree} → SoundTree t → (active n : ℕ) → Within t active → baseShare t active n ≤ WHOLE
-unfolding baseShare
-base-share-most {t} sound active n within = go (has active n) refl
-  where
-    go : (b : Bool) → has active n ≡ b → cond b (shareOf t active n) 0 ≤ WHOLE
-    go true e =
-        let l : n ≤ last t = leaf-last t n (within n e) in
-        share-le sound active n l (active-leaf t active n e (leaf-pos t n (within n e)) l)
-    go false e = omega arith
 
 -- "The active leaves' base shares sum to at most WHOLE"
 pub leaves-share-at-most-whole : {t : Tree} → SoundTree t → (active : ℕ) → Within t active → sumTo (baseShare t active) (last t) ≤ WHOLE

@@ -6,7 +6,7 @@ use Prim.Native.Nat.{ℕ, _+_, _*_, _≤_}
 use native.Mathlib.Omega.{arith}
 use lib.ListN.{getD, replicate, length-replicate}
 use Rattle.rules.specs.Numbers.{WHOLE, nodesMost, leafMost, queueRoom}
-use Rattle.rules.specs.Words.{sumTo, anyTo, has, none}
+use Rattle.rules.specs.Words.{sumTo, anyTo, has, noNode}
 use Rattle.rules.specs.Units.{abs}
 use Rattle.rules.specs.Cost.{ratesInRange, bpsInRange, iopsInRange, priced}
 use Rattle.rules.specs.Tree.{last, baseShare, baseShares, isThin}
@@ -45,7 +45,7 @@ empty-queue-sound = record {
 pub empty-row-sound : SoundRow emptyRow
 empty-row-sound = record { debt-most = omega arith; end-most = omega arith }
 
-nobody : {P : Type 0} (n : ℕ) → has none n ≡ true → P
+nobody : {P : Type 0} (n : ℕ) → has noNode n ≡ true → P
 nobody n e = absurd (true-not-false e (has-none n))
 
 module _ (t : Tree) (m : Model) (time : ℕ) where
@@ -61,14 +61,14 @@ module _ (t : Tree) (m : Model) (time : ℕ) where
   fresh-worth : (n : ℕ) → rowAt (fresh t m time) n .budget .0 * shareAt (fresh t m time) n ≡ 0
   fresh-worth n = rw (fresh-row n, fresh-share n)
 
-  fresh-base : (n : ℕ) → baseShare t none n ≡ 0
-  fresh-base n = no-base-share t none n (has-none n)
+  fresh-base : (n : ℕ) → baseShare t noNode n ≡ 0
+  fresh-base n = no-base-share t noNode n (has-none n)
 
-  fresh-shares : replicate nodesMost 0 ≡ baseShares t none
+  fresh-shares : replicate nodesMost 0 ≡ baseShares t noNode
   unfolding baseShares
   fresh-shares =
       table-back (replicate nodesMost 0) 0 (length-replicate {A = ℕ} nodesMost 0)
-      ∙ table-cong (λ n. getD (replicate nodesMost 0) n 0) (baseShare t none) (λ n l. fresh-share n ∙ sym (fresh-base n))
+      ∙ table-cong (λ n. getD (replicate nodesMost 0) n 0) (baseShare t noNode) (λ n l. fresh-share n ∙ sym (fresh-base n))
 
   pub fresh-sound : SoundTree t → isThin t ≡ false → PricedModel m → Sound (fresh t m time)
   fresh-sound tree thick model = record {
@@ -86,7 +86,7 @@ module _ (t : Tree) (m : Model) (time : ℕ) where
     share-idle = λ n e. fresh-share n;
     share-sum =
         sum-none (shareAt (fresh t m time)) leafMost (λ n p l. fresh-share n)
-        ∙ sym (sum-none (baseShare t none) leafMost (λ n p l. fresh-base n));
+        ∙ sym (sum-none (baseShare t noNode) leafMost (λ n p l. fresh-base n));
     taker = λ n e d. nobody n e;
     no-donation = λ e. fresh-shares;
     rows-all = length-replicate nodesMost emptyRow;

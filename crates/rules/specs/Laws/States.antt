@@ -4,7 +4,7 @@
 use mathlib.Core.Path.{_≡_, refl}
 use mathlib.Core.Bool.{Bool, true, false}
 use Prim.Native.Nat.{ℕ, _+_, _-_, _*_, _^_, _≤_, _<_}
-use native.Mathlib.Nat.{mul-le-mul, mul-le-mul-left}
+use native.Mathlib.Nat.{mul-le-mul}
 use native.Mathlib.Omega.{arith}
 use lib.ListN.{List·getD-eq-default}
 use Rattle.rules.specs.Numbers.{WHOLE, nodesMost, leafMost, queueRoom, elapsedMost, waitingMost}
@@ -58,13 +58,6 @@ module _ {c : Controller} (sound : Sound c) where
   share-pos n e = omega (arith, sound .share-floor n e)
 
   -- ---- budgets: of an active leaf, alone and with what a tick brings
-  pub budget-small : (n : ℕ) → has (c .active) n ≡ true → rowAt c n .budget .0 ≤ 2 ^ 52
-  budget-small n e =
-      omega (arith, sound .worth-most n, mul-le-mul-left (rowAt c n .budget .0) (sound .share-floor n e))
-
-  pub gained-small : (n g : ℕ) → g ≤ 4 * elapsedMost → (rowAt c n .budget .0 + g) * shareAt c n < 2 ^ 63
-  gained-small n g l = omega (arith, sound .worth-most n, mul-le-mul l (share-most n))
-
   -- ---- usages
   pub usage-small : sumTo (λ n. rowAt c n .usage .0) leafMost ≤ 2 ^ 38
   usage-small = omega (arith, sound .usage-most, sound .clock .since-most)

@@ -13,11 +13,11 @@ use lib.ListN.{length, getD, length-set}
 use lib.Seq.{getD-set-same, getD-set-other}
 use borrow.Author.Tests.{leb-false, ltb-false, eq-eqb, ne-eqb, not-false}
 use Rattle.rules.specs.Numbers.{WHOLE, nodesMost, leafMost, queueRoom, costMost, debtMost, endMost}
-use Rattle.rules.specs.Words.{sumTo, has, none}
+use Rattle.rules.specs.Words.{sumTo, has, noNode}
 use Rattle.rules.specs.Cost.{costOf, endOf, isForced, isSequential, bioInRange}
 use Rattle.rules.specs.Tree.{isLeaf}
-use Rattle.rules.specs.Budget.{emptyRow, emptyQueue, rowAt, queueAt, shareAt, putLeaf, noted, fits, rebased, entered, rowAfter, queueAfter, endsDonation, answerIn, applied, settled, submission}
-use Rattle.rules.specs.Refusals.{firstOf, isWait, isDebt, wouldBe, costChecks, roomChecks, submitChecks}
+use Rattle.rules.specs.Budget.{emptyRow, emptyQueue, rowAt, queueAt, shareAt, putLeaf, noted, fits, rebased, entered, rowAfter, queueAfter, endsDonation, answerIn, applied, settled, submission, wouldBe}
+use Rattle.rules.specs.Refusals.{firstOf, isWait, isDebt, costChecks, roomChecks, submitChecks}
 use Rattle.rules.specs.Entries.{submittedBy, submitted}
 use Rattle.rules.specs.Invariant.{SoundRow, SoundQueue, IdleLeaf, Sound}
 use Rattle.rules.specs.Demand3.Ledger.{Call, after, costOfFirst, waiting, owed, ifTaken, ifIssued, ifWaits, ifOnDebt, costOn, accepted, issued, released, repaid, charged, generated, saved}
@@ -262,7 +262,7 @@ module _ {c : Controller} (s : Sound c) (b : Bio) (a : Answer) (on : has (c .act
           → Sound (cond (x && y) (rebased (c .active) (applied a b c)) (applied a b c))
       go true true i j =
           rebasing-keeps applied-books (c .active)
-          (applied-roles none (omega arith) (λ k e. absurd (true-not-false e (has-none k))) (λ e. absurd (true-not-false e (has-none (b .node)))))
+          (applied-roles noNode (omega arith) (λ k e. absurd (true-not-false e (has-none k))) (λ e. absurd (true-not-false e (has-none (b .node)))))
       go true false i j = keep-donors (λ e. absurd (true-not-false e j))
       go false y i j = keep-donors (λ e. i)
 

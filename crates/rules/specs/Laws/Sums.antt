@@ -1,7 +1,7 @@
 -- Laws of a sum and of a test over the nodes 1 to m.
 -- Assumes nothing.
 use mathlib.Core.Path.{_≡_, refl, _∙_}
-use mathlib.Core.Bool.{Bool, true, false, cond, _||_}
+use mathlib.Core.Bool.{Bool, true, false, cond}
 use mathlib.Core.List.{List, _++_}
 use mathlib.Core.Logic.{⊎-elim}
 use Prim.Native.Nat.{ℕ, zero, suc, _+_, _-_, _*_, _≤_, _<_}
@@ -176,12 +176,6 @@ any-none p n m e l q = is-false (p n) (λ t. true-not-false (any-in p n m l q t)
 
 pub none-any : (p : ℕ → Bool) (m : ℕ) → ((n : ℕ) → 0 < n → n ≤ m → p n ≡ false) → anyTo p m ≡ false
 none-any p m h = is-false (anyTo p m) (λ t. let w = any-out p m t in true-not-false (w .3) (h (w .0) (w .1) (w .2)))
-
--- the last node apart, as a loop tests it
-pub any-step : (p : ℕ → Bool) (n : ℕ) → 0 < n → anyTo p n ≡ (anyTo p (n - 1) || p n)
-unfolding anyTo
-any-step p zero l = absurd (omega arith)
-any-step p (suc n) l = let e : suc n - 1 ≡ n = omega arith in rw e
 
 pub any-cong : (p q : ℕ → Bool) (m : ℕ) → ((n : ℕ) → 0 < n → n ≤ m → p n ≡ q n) → anyTo p m ≡ anyTo q m
 unfolding anyTo

@@ -1,11 +1,11 @@
 -- A loop that goes up through the places of a list: the first places have what a table has there, the others what they had.
 -- Assumes nothing.
-use mathlib.Core.Path.{_≡_, refl, sym, ap, _∙_}
+use mathlib.Core.Path.{_≡_, sym, ap, _∙_}
 use mathlib.Core.List.{List, _++_, append-nil}
-use Prim.Native.Nat.{ℕ, zero, suc, _+_, _≤_, _<_}
+use Prim.Native.Nat.{ℕ, suc, _+_, _<_}
 use native.Mathlib.Numerals.{add-one}
 use native.Mathlib.Omega.{arith}
-use lib.ListN.{length, take, drop, getD, set, length-append, length-take, length-drop}
+use lib.ListN.{length, take, drop, getD, set}
 use lib.Seq.{drop-cons, take-suc, set-at, getD-at, append-snoc, set-getD, length-take-le, take-length, drop-length}
 use Rattle.rules.specs.Numbers.{nodesMost}
 use Rattle.rules.specs.Words.{table}
@@ -29,9 +29,6 @@ module _ {A : Type 0} where
     pub swept-skip : (i : ℕ) (d : A) → i < length g → i < length l → getD g i d ≡ getD l i d → swept g l i ≡ swept g l (i + 1)
     swept-skip i d hg h e =
         sym (set-getD (swept g l i) i d) ∙ ap (λ (x : A). set (swept g l i) i x) (swept-get i d hg h ∙ sym e) ∙ swept-set i d hg h
-
-    pub swept-length : (i : ℕ) → i ≤ length g → i ≤ length l → length (swept g l i) ≡ length l
-    swept-length i hg h = simp (length-append, length-take, length-drop) (omega arith)
 
     pub swept-all : (i : ℕ) → length g ≡ i → length l ≡ i → swept g l i ≡ g
     swept-all i eg e = rw (← e, drop-length, e, ← eg, take-length) (append-nil g)

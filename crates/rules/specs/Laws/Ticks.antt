@@ -7,7 +7,7 @@ use Prim.Native.Nat.{ℕ, _+_, _*_, _≤_, _<_}
 use native.Mathlib.Nat.{mul-le-mul-left}
 use native.Mathlib.Omega.{arith}
 use lib.ListN.{length, getD}
-use Rattle.rules.specs.Numbers.{WHOLE, leafMost, elapsedMost}
+use Rattle.rules.specs.Numbers.{WHOLE, leafMost}
 use Rattle.rules.specs.Words.{sumTo, tableFrom, table, has}
 use Rattle.rules.specs.Budget.{rowAt, queueAt, shareAt, emptyRow, emptyQueue}
 use Rattle.rules.specs.Tick.{Turn, growth, advanced, gained, repayment, turn, turnOf, releases, tick, waitingAll}
@@ -19,7 +19,7 @@ use Rattle.rules.specs.Laws.Sums.{length-join, sum-cong, sum-le, sum-add
 use Rattle.rules.specs.Laws.Tables.{table-length, table-every}
 use Rattle.rules.specs.Laws.Rows.{keepAll, turn-keeps, turn-row-sound, turn-flow, repayment-if-owing}
 use Rattle.rules.specs.Laws.Passes.{TickPasses, tick-passes}
-use Rattle.rules.specs.Laws.States.{past-is-idle, row-past, queue-past, shares-at-most-whole, share-most, share-pos, growth-small}
+use Rattle.rules.specs.Laws.States.{past-is-idle, row-past, queue-past, shares-at-most-whole, share-most, share-pos}
 use Rattle.rules.specs.declared.units.Virt.{Virt}
 use Rattle.rules.specs.declared.budget.Row.{Row}
 use Rattle.rules.specs.declared.budget.Queue.{Queue}
@@ -226,9 +226,6 @@ module _ {c : Controller} (sound : Sound c) (time : ℕ) where
       ≤ (c .clock .since .0 + (gain c time) .0) * WHOLE + leafMost * worthMost
   unfolding saved
   usage-kept = omega (arith, tick-usages, all-usage sound (gain c time), all-flow sound (gain c time), tick-budgets, sound .usage-most)
-
-  pub tick-growth-small : (places : ℕ) → firstOf (tickChecks time places c) ≡ Accepted → gain c time .0 ≤ 4 * elapsedMost
-  tick-growth-small places e = growth-small (sound .clock) time (tick-passes time places c e .near)
 
   -- the lent buffer has room for all that is released
   pub tick-releases-fit : (places : ℕ) → firstOf (tickChecks time places c) ≡ Accepted → length (releases (gain c time) c) ≤ places

@@ -15,14 +15,13 @@ use lib.Seq.{drop-cons, drop-length, drop-drop, take-add, take-at, drop-at, drop
 use borrow.Author.Tests.{ltb-true, ltb-false, leb-true, eqb-true, eqb-false, lt-ltb, le-ltb, eq-eqb, ne-eqb}
 use Rattle.rules.specs.Words.{tableFrom}
 use Rattle.rules.specs.Trace.{bytesOf, numberOf, isKind, layout, total, kindOf, fieldsOf, recordOf, bodyOf, recordBytes, FitsIn, Fits, writing, writtenTo, fieldsFrom, behind, readKind, readAt}
-use Rattle.rules.specs.Laws.Bools.{true-not-false, and-right}
+use Rattle.rules.specs.Laws.Bools.{never, true-not-false, and-right}
 use Rattle.rules.specs.declared.refusals.Refusal.{Refusal}
 use Rattle.rules.specs.declared.refusals.Refusal.the-variants.{UnknownKind, CutShort, ShortBuffer}
 use Rattle.rules.specs.declared.trace.Record.{Record}
 use Rattle.rules.specs.declared.trace.Record.the-variants.{Node, Model, Start, Bio as BioOf, Tick, Plan, Vrate}
 use Rattle.rules.specs.declared.trace.Read.{Read}
 use Rattle.rules.specs.declared.trace.Read.the-variants.{Found, End, Refused}
-use Rattle.rules.specs.declared.trace.Write.{Write}
 use Rattle.rules.specs.declared.trace.Write.the-variants.{Wrote, Refused as Unwritten}
 
 -- ---- a number and its bytes
@@ -277,7 +276,7 @@ module _ (r : Record) (lent : List ℕ) where
       go : (b : Bool) → ltb (length lent) (length (recordBytes r)) ≡ b
           → (cond b (Unwritten ShortBuffer) (Wrote (length (recordBytes r))) ≡ Unwritten ShortBuffer) ↔ (length lent < length (recordBytes r))
       go true h = (λ e. ltb-true _ _ h, λ l. refl)
-      go false h = (λ e. let z : _≡_ {A = ℕ} 0 1 = cc in absurd (omega arith), λ l. absurd (omega (arith, ltb-false (length lent) (length (recordBytes r)) h)))
+      go false h = (λ e. never (cc), λ l. absurd (omega (arith, ltb-false (length lent) (length (recordBytes r)) h)))
 
   pub a-refused-write-changes-nothing : (x : Refusal) → writing r lent ≡ Unwritten x → writtenTo r lent ≡ lent
   unfolding writing writtenTo
@@ -286,7 +285,7 @@ module _ (r : Record) (lent : List ℕ) where
       go : (b : Bool) → cond b (Unwritten ShortBuffer) (Wrote (length (recordBytes r))) ≡ Unwritten x
           → cond b lent (recordBytes r ++ drop (length (recordBytes r)) lent) ≡ lent
       go true e = refl
-      go false e = let z : _≡_ {A = ℕ} 0 1 = cc in absurd (omega arith)
+      go false e = never (cc)
 
 -- ---- written, then read
 body-is-found : (front body rest : List ℕ) (kind : ℕ) → isKind kind ≡ true → length body ≡ total (layout kind)
@@ -402,8 +401,8 @@ read-trace-writes-back {trace} bytes (one-more {at = at} {next = next} {r = r} {
 -- reading has one result
 pub reads-one : {trace : List ℕ} {at : ℕ} {rs ss : List Record} → Reads trace at rs → Reads trace at ss → rs ≡ ss
 reads-one (none-left e) (none-left d) = refl
-reads-one (none-left e) (one-more d more) = let z : _≡_ {A = ℕ} 0 1 = cc in absurd (omega arith)
-reads-one (one-more e more) (none-left d) = let z : _≡_ {A = ℕ} 0 1 = cc in absurd (omega arith)
+reads-one (none-left e) (one-more d more) = never (cc)
+reads-one (one-more e more) (none-left d) = never (cc)
 reads-one (one-more {next = n} {r = r} e more) (one-more {next = m} {r = q} d less) =
     let same : r ≡ q = cc in
     let on : m ≡ n = cc in

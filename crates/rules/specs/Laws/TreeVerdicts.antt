@@ -4,8 +4,7 @@
 use mathlib.Core.Path.{_≡_, refl, sym, ap, _∙_}
 use mathlib.Core.Bool.{Bool, true, false, cond}
 use mathlib.Core.Logic.{_↔_}
-use Prim.Native.Nat.{ℕ, _≤_}
-use native.Mathlib.Omega.{arith}
+use Prim.Native.Nat.{_≤_}
 use Rattle.rules.specs.Numbers.{nodesLeast}
 use Rattle.rules.specs.Tree.{countInRange, faultTo, last, treeFault, isThin}
 use Rattle.rules.specs.Refusals.{isFault, treeChecks}
@@ -15,11 +14,8 @@ use Rattle.rules.specs.declared.tree.Fault.{Fault}
 use Rattle.rules.specs.declared.tree.Fault.the-variants.{Sound, Count, Parent, Weight, Level}
 use Rattle.rules.specs.declared.refusals.Refusal.the-variants.{BadTree, ThinTree}
 use Rattle.rules.specs.declared.refusals.Verdict.the-variants.{Accepted, Refused}
-use Rattle.rules.specs.Laws.Bools.{true-not-false, is-true}
+use Rattle.rules.specs.Laws.Bools.{never, true-not-false, is-true}
 use Rattle.rules.specs.Laws.Trees.{SoundTree, count-range, sound-tree, tree-sound}
-
-never : {A : Type 0} → _≡_ {A = ℕ} 0 1 → A
-never e = absurd (omega arith)
 
 -- ---- a fault is anything but Sound
 pub sound-when : (f : Fault) → isFault f ≡ false → f ≡ Sound

@@ -9,17 +9,18 @@ use native.Mathlib.Nat.{le-of-suc-le-suc}
 use native.Mathlib.Decide.{decLt}
 use native.Mathlib.Omega.{arith}
 use lib.Dec.{eqb, leb, ltb}
+use lib.ListN.{getD}
 use borrow.Author.Tests.{ltb-true, ltb-false, leb-true, leb-false, eqb-true, eqb-false, not-true, not-false, lt-ltb, le-ltb, le-leb, lt-leb}
 use borrow.Author.Tests.{eq-eqb, ne-eqb}
 use Rattle.rules.specs.Numbers.{WHOLE, nodesLeast, nodesMost, weightLeast, weightMost, levelMost}
 use Rattle.rules.specs.Words.{anyTo, has}
 use Rattle.rules.specs.Units.{FLOOR}
-use Rattle.rules.specs.Tree.{parent, weight, last, levelIn, level, countInRange, weightInRange, nodeFault, orElse, faultTo, treeFault}
+use Rattle.rules.specs.Tree.{parent, weight, last, levelIn, level, countInRange, weightInRange, nodeFault, firstFault, faultTo, treeFault}
 use Rattle.rules.specs.Tree.{isLeaf, leavesOf, onWayIn, onWay, isActive, childSum, shareIn, shareOf}
 use Rattle.rules.specs.declared.tree.Tree.{Tree}
 use Rattle.rules.specs.declared.tree.Fault.{Fault}
 use Rattle.rules.specs.declared.tree.Fault.the-variants.{Sound, Count, Parent, Weight, Level}
-use Rattle.rules.specs.Laws.Bools.{true-not-false, is-false, same-test, and-left, and-right, and-both, or-left, or-right, or-cases, between}
+use Rattle.rules.specs.Laws.Bools.{never, true-not-false, is-false, same-test, and-left, and-right, and-both, or-left, or-right, or-cases, between}
 use Rattle.rules.specs.Laws.Sums.{sum-in, any-in, any-out, any-none, none-any}
 use Rattle.rules.specs.Laws.Sets.{has-setOf, setOf-past}
 
@@ -46,22 +47,28 @@ pub count-range : (c : ℕ) → countInRange c ≡ true → (nodesLeast ≤ c) �
 unfolding countInRange
 count-range c e = between nodesLeast c nodesMost .0 e
 
+-- the parent of any node but the root
+pub parent-is : (t : Tree) (n : ℕ) → 0 < n → parent t n ≡ getD (t .parents) n 0
+unfolding parent
+parent-is t zero a = absurd (omega arith)
+parent-is t (suc n) a = refl
+
 -- a test that would have found the fault f has failed
 passed : (b : Bool) (f g : Fault) → (f ≡ Sound → _≡_ {A = ℕ} 0 1) → cond b f g ≡ Sound → (b ≡ false) × (g ≡ Sound)
 passed true f g h e = let z : _≡_ {A = ℕ} 0 1 = h e in absurd (omega arith)
 passed false f g h e = (refl, e)
 
-or-else-left : (f g : Fault) → orElse f g ≡ Sound → f ≡ Sound
+or-else-left : (f g : Fault) → firstFault f g ≡ Sound → f ≡ Sound
 or-else-left Sound g e = refl
 or-else-left Count g e = e
 or-else-left (Parent n) g e = e
 or-else-left (Weight n) g e = e
 or-else-left (Level n) g e = e
 
-or-else-right : (f g : Fault) → orElse f g ≡ Sound → g ≡ Sound
+or-else-right : (f g : Fault) → firstFault f g ≡ Sound → g ≡ Sound
 or-else-right f g e = rw (or-else-left f g e) at e
 
-node-sound : (t : Tree) (n : ℕ) → nodeFault t n ≡ Sound → SoundNode t n
+pub node-sound : (t : Tree) (n : ℕ) → nodeFault t n ≡ Sound → SoundNode t n
 unfolding nodeFault
 node-sound t n e =
     let a = passed (leb n (parent t n)) (Parent n) _ (λ q. cc) e in
@@ -114,7 +121,7 @@ sound-tree t e = go (countInRange (t .count)) refl e
           heavy = λ n p q. nodes n p q .heavy;
           shallow = λ n p q. nodes n p q .shallow;
         }
-    go false c f = let z : _≡_ {A = ℕ} 0 1 = cc in absurd (omega arith)
+    go false c f = never (cc)
 
 pub tree-sound : (t : Tree) → nodesLeast ≤ t .count → SoundTree t → treeFault t ≡ Sound
 unfolding treeFault countInRange
@@ -178,13 +185,6 @@ pub childless-leaf : (t : Tree) (n : ℕ) → 0 < n → n ≤ last t → ((k : �
 unfolding isLeaf
 childless-leaf t n p q h =
     rw (lt-ltb 0 n p, le-leb n (last t) q, none-any (λ k. eqb (parent t k) n) (last t) (λ k a b. ne-eqb (parent t k) n (h k a b)))
-
--- a node that is no leaf has a child
-pub inner-child : (t : Tree) (n : ℕ) → 0 < n → n ≤ last t → isLeaf t n ≡ false → (k : ℕ) × (0 < k) × (k ≤ last t) × (parent t k ≡ n)
-unfolding isLeaf
-inner-child t n p q e =
-    let w = any-out (λ k. eqb (parent t k) n) (last t) (not-false _ (rw (lt-ltb 0 n p, le-leb n (last t) q) at e)) in
-    (w .0, w .1, w .2, eqb-true (parent t (w .0)) n (w .3))
 
 -- only leaves are in the set
 abbrev pub Within : Tree → ℕ → Type 0
@@ -343,9 +343,6 @@ module _ {t : Tree} (sound : SoundTree t) where
         (λ c. absurd (leaf-childless t n l (c .0) (c .1) (c .2) (c .3)))
         (way-child (w .0) n (w .2) (w .4)))
         (λ e. active-leaf t active n e (leaf-pos t n l) (leaf-last t n l))
-
-    pub idle-leaf : (n : ℕ) → isLeaf t n ≡ true → has active n ≡ false → isActive t active n ≡ false
-    idle-leaf n l e = leaf-active n l ∙ e
 
     -- the root is active when anybody is
     pub root-active : (n : ℕ) → Within t active → has active n ≡ true → isActive t active 0 ≡ true

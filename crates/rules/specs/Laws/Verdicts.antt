@@ -5,11 +5,10 @@ use mathlib.Core.Logic.{_↔_}
 use mathlib.Core.Bool.{Bool, true, false, cond, not, _&&_}
 use mathlib.Core.List.{List, [], _∷_, _++_}
 use Prim.Native.Nat.{ℕ}
-use native.Mathlib.Omega.{arith}
 use lib.Dec.{eqb}
 use borrow.Author.Tests.{eq-eqb, not-true}
 use Rattle.rules.specs.Refusals.{Check, _⇒_, number, firstOf}
-use Rattle.rules.specs.Laws.Bools.{true-not-false, and-left, and-right}
+use Rattle.rules.specs.Laws.Bools.{never, true-not-false, and-left, and-right}
 use Rattle.rules.specs.declared.refusals.Refusal.{Refusal}
 use Rattle.rules.specs.declared.refusals.Verdict.{Verdict}
 use Rattle.rules.specs.declared.refusals.Verdict.the-variants.{Accepted, Refused}
@@ -25,7 +24,7 @@ lacks n [] = true
 lacks n (k ∷ ks) = not (eqb (number (k .refusal)) n) && lacks n ks
 
 pub accepted-is-not-refused : (x : Refusal) → Accepted ≡ Refused x → ⊥
-accepted-is-not-refused x e = let z : _≡_ {A = ℕ} 0 1 = cc in omega arith
+accepted-is-not-refused x e = never (cc)
 
 same-refusal : (x y : Refusal) → Refused x ≡ Refused y → x ≡ y
 same-refusal x y e = cc

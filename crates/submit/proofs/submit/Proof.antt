@@ -13,8 +13,9 @@ use Rattle.rules.specs.Budget.{rowAt, entered}
 use Rattle.rules.specs.Entries.{costing}
 use Rattle.rules.specs.declared.units.Abs.{Abs}
 use Rattle.rules.specs.declared.refusals.Costing.the-variants.{Costs}
+use Rattle.rules.specs.Laws.Decisions.{entered-active}
 use Rattle.submit.proofs.Shapes.{at-node, leaf-node, leaf-found, found, model-is-sound}
-use Rattle.submit.proofs.Shapes.{stays, wakes, woken-within, Ready, ready-there, can-judge, can-rebase, ends, goes-on, submits, unfit, no-leaf}
+use Rattle.submit.proofs.Shapes.{wakes, woken-within, Ready, ready-there, can-judge, can-rebase, ends, goes-on, submits, unfit, no-leaf}
 use Rattle.submit.proofs.submit.Statement.{statement}
 use Rattle.submit.proofs.submit.Tie as tie
 
@@ -59,7 +60,7 @@ is-entered c =
     let n = node (leaf-at c) in
     ⊎-elim
     (λ w. w .3 ∙ w .2 .ensures ∙ rw (w .1 .ensures) (sym (wakes (s .pre) n (sym (c .before .has .ensures) ∙ not-true _ (w .0 .taken)))))
-    (λ w. w .1 ∙ sym (stays n (s .args .t1) (sym (c .before .has .ensures) ∙ not-false _ (w .0 .left))))
+    (λ w. w .1 ∙ sym (entered-active n (s .args .t1) (sym (c .before .has .ensures) ∙ not-false _ (w .0 .left))))
     (c .if2 .came)
 
 is-ready : (c : tie.Joined2) → Ready (start (leaf-at c) .args .bio) (cost-at (costed c)) (c .if2 .c)

@@ -4,10 +4,6 @@ use borrow.Author.Needs.{needs}
 use Rattle.rules.specs.Budget.{rebased}
 use Rattle.controller.proofs.shares.rebased.Statement.{statement}
 use Rattle.controller.proofs.shares.rebased.Tie as tie
-use Rattle.controller.proofs.shares.rebased.Reads as reads
-use Rattle.controller.proofs.shares.rebased.Lts as lts
-use Rattle.controller.proofs.shares.reshared.Reads as reshared-reads
-use Rattle.tree.proofs.shares.base_shares.Reads as base-shares-reads
 
 base-shares-requires : tie.Need-base-shares-requires
 base-shares-requires c κs = search needs

@@ -1,11 +1,11 @@
 -- `rebudgeted` meets its contract. The invariant: the rows below n have their scaled budgets, the others are as they came.
 -- Assumes nothing.
-use mathlib.Core.Path.{_≡_, refl, sym, ap, _∙_}
+use mathlib.Core.Path.{_≡_, refl}
 use mathlib.Core.List.{List}
 use Prim.Native.Nat.{ℕ, _+_, _-_, _*_, _^_, _≤_, _<_}
 use native.Mathlib.Omega.{arith}
 use borrow.Author.Needs.{needs}
-use lib.ListN.{length, getD, set, length-map}
+use lib.ListN.{length, getD, set}
 use Rattle.rules.specs.Words.{table}
 use Rattle.rules.specs.Budget.{emptyRow, withBudget, rebudget}
 use Rattle.rules.specs.Laws.Sweeps.{swept, place-here, place-put, places-done}
@@ -13,10 +13,6 @@ use Rattle.rules.specs.declared.budget.Row.{Row}
 use Rattle.rules.specs.declared.units.Virt.{Virt}
 use Rattle.controller.proofs.shares.rebudgeted.Statement.{statement}
 use Rattle.controller.proofs.shares.rebudgeted.Tie as tie
-use Rattle.controller.proofs.shares.rebudgeted.Reads as reads
-use Rattle.controller.proofs.shares.rebudgeted.Lts as lts
-use Rattle.controller.proofs.shares.wide.Reads as wide-reads
-use Rattle.units.proofs.rebudget.Reads as rebudget-reads
 
 abbrev scaled : List ℕ → List ℕ → List Row → ℕ → Row
 scaled before after rows n =

@@ -4,9 +4,6 @@ use borrow.Author.Needs.{needs}
 use Rattle.rules.specs.Budget.{reshared}
 use Rattle.controller.proofs.shares.reshared.Statement.{statement}
 use Rattle.controller.proofs.shares.reshared.Tie as tie
-use Rattle.controller.proofs.shares.reshared.Reads as reads
-use Rattle.controller.proofs.shares.reshared.Lts as lts
-use Rattle.controller.proofs.shares.rebudgeted.Reads as rebudgeted-reads
 
 rebudgeted-requires : tie.Need-rebudgeted-requires
 rebudgeted-requires c κs = search needs

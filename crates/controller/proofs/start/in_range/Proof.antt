@@ -1,12 +1,9 @@
 -- `in_range` meets its contract: the two tests of the rule.
 -- Assumes nothing.
-use borrow.Author.Needs.{needs}
 use mathlib.Core.Path.{refl}
 use Rattle.rules.specs.Plan.{vrateInRange}
 use Rattle.controller.proofs.start.in_range.Statement.{statement}
 use Rattle.controller.proofs.start.in_range.Tie as tie
-use Rattle.controller.proofs.start.in_range.Reads as reads
-use Rattle.controller.proofs.start.in_range.Lts as lts
 
 returns : tie.Need-returns
 unfolding vrateInRange

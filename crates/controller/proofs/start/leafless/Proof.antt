@@ -1,15 +1,11 @@
 -- `leafless` meets its contract: a tree with no node has no leaf.
 -- Assumes nothing.
 use borrow.Author.Needs.{needs}
-use mathlib.Core.Path.{_≡_, refl, sym, _∙_}
+use mathlib.Core.Path.{_∙_}
 use Rattle.rules.specs.Words.{anyTo, setTo}
 use Rattle.rules.specs.Tree.{last, isLeaf, leavesOf}
 use Rattle.controller.proofs.start.leafless.Statement.{statement}
 use Rattle.controller.proofs.start.leafless.Tie as tie
-use Rattle.controller.proofs.start.leafless.Reads as reads
-use Rattle.controller.proofs.start.leafless.Lts as lts
-use Rattle.controller.proofs.start.slowest.Reads as slowest-reads
-use Rattle.rules.proofs.budget.Controller.new.Reads as new-reads
 
 slowest-requires : tie.Need-slowest-requires
 slowest-requires c κs = search needs

@@ -1,6 +1,5 @@
 -- `refused` meets its contract, whatever start was asked.
 -- Assumes nothing.
-use mathlib.Core.Path.{_≡_, refl}
 use borrow.Author.Needs.{needs}
 use Rattle.rules.specs.Entries.{startedBy}
 use Rattle.controller.proofs.start.refused.Statement.{statement}

@@ -1,13 +1,10 @@
 -- `slowest` meets its contract: the prices are those of the slowest rates.
 -- Assumes nothing.
-use borrow.Author.Needs.{needs}
 use mathlib.Core.Path.{refl}
 use Rattle.rules.specs.Units.{CEIL}
 use Rattle.rules.specs.Cost.{pageCost, baseCost, priceOf, priced}
 use Rattle.controller.proofs.start.slowest.Statement.{statement}
 use Rattle.controller.proofs.start.slowest.Tie as tie
-use Rattle.controller.proofs.start.slowest.Reads as reads
-use Rattle.controller.proofs.start.slowest.Lts as lts
 
 returns : tie.Need-returns
 unfolding priced priceOf pageCost baseCost CEIL

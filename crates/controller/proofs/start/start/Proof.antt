@@ -1,6 +1,6 @@
 -- `start` meets its contract: the tree's verdict first, then the rates', then the fresh state over both.
 -- Assumes nothing.
-use mathlib.Core.Path.{_≡_, refl, sym, _∙_}
+use mathlib.Core.Path.{_≡_, sym, _∙_}
 use borrow.Author.Needs.{needs}
 use Rattle.rules.specs.Entries.{treeVerdict}
 use Rattle.rules.specs.Laws.Trees.{sound-tree}
@@ -9,13 +9,6 @@ use Rattle.rules.specs.declared.refusals.Verdict.the-variants.{Accepted}
 use Rattle.controller.proofs.Begin.{tree-refuses, rates-refuse, start-accepts}
 use Rattle.controller.proofs.start.start.Statement.{statement}
 use Rattle.controller.proofs.start.start.Tie as tie
-use Rattle.controller.proofs.start.start.Reads as reads
-use Rattle.controller.proofs.start.start.Lts as lts
-use Rattle.controller.proofs.start.refused.Reads as refused-reads
-use Rattle.cost.proofs.price.Reads as price-reads
-use Rattle.rules.proofs.budget.Controller.new.Reads as new-reads
-use Rattle.tree.proofs.check.Reads as check-reads
-use Rattle.tree.proofs.nodes.leaves.Reads as leaves-reads
 
 check-requires : tie.Need-check-requires
 check-requires c κs = search needs

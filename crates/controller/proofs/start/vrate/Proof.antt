@@ -1,16 +1,13 @@
 -- `vrate` meets its contract: the one check of the rule decides.
 -- Assumes nothing.
 use borrow.Author.Needs.{needs}
-use mathlib.Core.Path.{_≡_, refl, sym, _∙_}
+use mathlib.Core.Path.{_≡_, sym, _∙_}
 use mathlib.Core.Bool.{true, false}
 use Rattle.rules.specs.Plan.{vrateInRange}
 use Rattle.rules.specs.Refusals.{vrateChecks}
 use Rattle.rules.specs.Entries.{vrated, vratedBy}
 use Rattle.controller.proofs.start.vrate.Statement.{statement}
 use Rattle.controller.proofs.start.vrate.Tie as tie
-use Rattle.controller.proofs.start.vrate.Reads as reads
-use Rattle.controller.proofs.start.vrate.Lts as lts
-use Rattle.controller.proofs.start.in_range.Reads as in-range-reads
 
 in-range-requires : tie.Need-in-range-requires
 in-range-requires c κs = search needs

@@ -21,7 +21,7 @@ add-t8 : tie.Need-add-t8
 add-t8 c = search needs
 
 paid : (cost : Abs) (share : ℕ) (row : Row) (price left : Virt) → price ≡ relative cost share → left ≡ virt (row .budget .0 - price .0)
-    → _≡_ {A = Row} (record { budget = left; debt = row .debt; usage = abs (row .usage .0 + cost .0); end = row .end; begun = row .begun; asked = row .asked }) (charged cost share row)
+    → _≡_ {A = Row} (record { budget = left; debt = row .debt; usage = abs (row .usage .0 + cost .0); end = row .end; begun = row .begun; accepted = row .accepted }) (charged cost share row)
 paid cost share row price left e f = rw (f, e)
 
 returns : tie.Need-returns

@@ -5,8 +5,6 @@ use Rattle.rules.specs.Chunks.{callOf}
 use Rattle.steps.proofs.Answered.{asks-bio, asks-tick, asks-vrate}
 use Rattle.steps.proofs.calls.call_of.Statement.{statement}
 use Rattle.steps.proofs.calls.call_of.Tie as tie
-use Rattle.steps.proofs.calls.call_of.Reads as reads
-use Rattle.steps.proofs.calls.call_of.Lts as lts
 
 -- src/calls.rt:31:21
 enum-known-read : tie.Need-enum-known-read

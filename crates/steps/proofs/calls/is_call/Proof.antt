@@ -5,8 +5,6 @@ use borrow.Author.Needs.{needs}
 use Rattle.rules.specs.Chunks.{isCall}
 use Rattle.steps.proofs.calls.is_call.Statement.{statement}
 use Rattle.steps.proofs.calls.is_call.Tie as tie
-use Rattle.steps.proofs.calls.is_call.Reads as reads
-use Rattle.steps.proofs.calls.is_call.Lts as lts
 
 -- src/calls.rt:50:25
 enum-told : tie.Need-enum-told

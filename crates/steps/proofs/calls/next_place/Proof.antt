@@ -4,8 +4,6 @@ use borrow.Author.Needs.{needs}
 use Rattle.rules.specs.Replay.{nextPlace}
 use Rattle.steps.proofs.calls.next_place.Statement.{statement}
 use Rattle.steps.proofs.calls.next_place.Tie as tie
-use Rattle.steps.proofs.calls.next_place.Reads as reads
-use Rattle.steps.proofs.calls.next_place.Lts as lts
 
 -- src/calls.rt:50:24
 enum-known-read : tie.Need-enum-known-read

@@ -4,10 +4,6 @@ use borrow.Author.Needs.{needs}
 use Rattle.steps.proofs.Answered.{shares-put, unplanned-put}
 use Rattle.steps.proofs.calls.put_planned.Statement.{statement}
 use Rattle.steps.proofs.calls.put_planned.Tie as tie
-use Rattle.steps.proofs.calls.put_planned.Reads as reads
-use Rattle.steps.proofs.calls.put_planned.Lts as lts
-use Rattle.lines.proofs.put_refusal.Reads as put-refusal-reads
-use Rattle.lines.proofs.put_shares.Reads as put-shares-reads
 
 -- src/calls.rt:73:64
 enum-told : tie.Need-enum-told

@@ -5,10 +5,6 @@ use native.Mathlib.Omega.{arith}
 use Rattle.steps.proofs.Answered.{room-for, released-put, unticked-put}
 use Rattle.steps.proofs.calls.put_ticked.Statement.{statement}
 use Rattle.steps.proofs.calls.put_ticked.Tie as tie
-use Rattle.steps.proofs.calls.put_ticked.Reads as reads
-use Rattle.steps.proofs.calls.put_ticked.Lts as lts
-use Rattle.lines.proofs.put_refusal.Reads as put-refusal-reads
-use Rattle.lines.proofs.put_releases.Reads as put-releases-reads
 
 -- src/calls.rt:62:25
 enum-known-answer : tie.Need-enum-known-answer

@@ -1,6 +1,5 @@
 -- `steps::calls::run` meets its contract: each turn of the loop is one call of the run, and its lines stand behind those before.
 -- Assumes nothing.
-use Prim.Native.Nat.{_-_}
 use native.Mathlib.Omega.{arith}
 use borrow.Author.Needs.{needs}
 use denote.Ref.{now}

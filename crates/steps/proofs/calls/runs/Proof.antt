@@ -4,11 +4,6 @@ use borrow.Author.Needs.{needs}
 use Rattle.rules.specs.Chunks.{runs}
 use Rattle.steps.proofs.calls.runs.Statement.{statement}
 use Rattle.steps.proofs.calls.runs.Tie as tie
-use Rattle.steps.proofs.calls.runs.Reads as reads
-use Rattle.steps.proofs.calls.runs.Lts as lts
-use Rattle.steps.proofs.calls.call_of.Reads as call-of-reads
-use Rattle.steps.proofs.calls.is_call.Reads as is-call-reads
-use Rattle.steps.proofs.calls.is_running.Reads as is-running-reads
 
 -- src/calls.rt:73:5
 is-running-requires : tie.Need-is-running-requires

@@ -4,10 +4,6 @@ use mathlib.Core.Path.{refl}
 use borrow.Author.Needs.{needs}
 use Rattle.rules.proofs.budget.Controller.new.Statement.{statement}
 use Rattle.rules.proofs.budget.Controller.new.Tie as tie
-use Rattle.rules.proofs.budget.Controller.new.Reads as reads
-use Rattle.rules.proofs.budget.Controller.new.Lts as lts
-use Rattle.rules.proofs.budget.Queue.empty.Reads as budget-Queue-empty-reads
-use Rattle.rules.proofs.budget.Row.empty.Reads as budget-Row-empty-reads
 
 empty-requires : tie.Need-empty-requires
 empty-requires c κs = search needs
