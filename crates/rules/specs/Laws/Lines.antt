@@ -117,6 +117,32 @@ pub refusal-line-most : (x : Refusal) → length (refusalLine x) ≤ 5
 unfolding refusalLine
 refusal-line-most x = omega (arith, line-one-length 82 (number x), digits-most 1 (number x) (number-most x))
 
+-- a line R tells its number
+two-digits : (n : ℕ) → 10 ≤ n → n < 100 → digits n ≡ (48 + n / 10) ∷ (48 + n % 10) ∷ []
+two-digits n l h =
+    rw (digits-long n l (omega arith), digits-short (n / 10) (tenth-below 1 n h))
+
+line-tells : (letter a b : ℕ) → a < 100 → b < 100 → line letter (a ∷ []) ≡ line letter (b ∷ []) → a ≡ b
+line-tells letter a b h k e = go (ltb a 10) (ltb b 10) refl refl (sym (line-one letter a) ∙ e ∙ line-one letter b)
+  where
+    go : (c d : Bool) → ltb a 10 ≡ c → ltb b 10 ≡ d → ((letter ∷ []) ++ (32 ∷ digits a)) ++ (10 ∷ []) ≡ ((letter ∷ []) ++ (32 ∷ digits b)) ++ (10 ∷ []) → a ≡ b
+    go true true p q f =
+        let x = rw (digits-short a (ltb-true a 10 p), digits-short b (ltb-true b 10 q)) at f in
+        omega (arith, ap (λ (l : List ℕ). getD l 2 0) x)
+    go true false p q f =
+        let x = rw (digits-short a (ltb-true a 10 p), two-digits b (ltb-false b 10 q) k) at f in
+        absurd (omega (arith, ap length x))
+    go false true p q f =
+        let x = rw (two-digits a (ltb-false a 10 p) h, digits-short b (ltb-true b 10 q)) at f in
+        absurd (omega (arith, ap length x))
+    go false false p q f =
+        let x = rw (two-digits a (ltb-false a 10 p) h, two-digits b (ltb-false b 10 q) k) at f in
+        omega (arith, ap (λ (l : List ℕ). getD l 2 0) x, ap (λ (l : List ℕ). getD l 3 0) x)
+
+pub refusal-line-tells : (x y : Refusal) → refusalLine x ≡ refusalLine y → number x ≡ number y
+unfolding refusalLine
+refusal-line-tells x y e = line-tells 82 (number x) (number y) (number-most x) (number-most y) e
+
 -- ---- releases, one after the other
 pub releases-append : (a b : List ℕ) → releaseLines (a ++ b) ≡ releaseLines a ++ releaseLines b
 releases-append [] b = refl

@@ -1,8 +1,9 @@
 -- What every replay keeps, from its beginning on and over each record: its nodes have room and climb, and its state is sound.
 -- Assumes nothing.
-use mathlib.Core.Path.{_≡_, refl}
+use mathlib.Core.Path.{_≡_, refl, sym, ap, _∙_}
 use mathlib.Core.Bool.{Bool, true, false, cond}
-use mathlib.Core.Logic.{⊎-elim}
+use mathlib.Core.Logic.{⊎-elim, _↔_}
+use mathlib.Core.List.{List}
 use Prim.Native.Nat.{ℕ, _-_, _≤_, _<_}
 use native.Mathlib.Nat.{eq-or-lt-of-le}
 use native.Mathlib.Omega.{arith}
@@ -12,12 +13,14 @@ use lib.Seq.{getD-set-other}
 use borrow.Author.Tests.{leb-true}
 use Rattle.rules.specs.Numbers.{nodesMost}
 use Rattle.rules.specs.Tree.{parent, last, nodeFault, newestFault, countInRange, treeFault}
-use Rattle.rules.specs.Refusals.{firstOf, nodeChecks, rateChecks, treeChecks, startChecks}
+use Rattle.rules.specs.Refusals.{Check, number, firstOf, nodeChecks, rateChecks, treeChecks, startChecks}
 use Rattle.rules.specs.Entries.{noTree, slowest, started, startedBy, submitted, ticked, planned, vrated}
 use Rattle.rules.specs.Trace.{kindOf}
-use Rattle.rules.specs.Replay.{inPhase, isStopped, within, stopsAt, silent, beginning, grown, allRoom, nodeStep, modelStep, startStep, recordStep, readStep, stepped}
+use Rattle.rules.specs.Replay.{Step, inPhase, isStopped, within, stopsAt, silent, beginning, grown, allRoom, nodeStep, modelStep, startStep, recordStep, readStep, stepped}
 use Rattle.rules.specs.Invariant.{Sound, Playing}
-use Rattle.rules.specs.Laws.Bools.{never}
+use Rattle.rules.specs.Laws.Bools.{never, true-not-false, is-false}
+use Rattle.rules.specs.Laws.Verdicts.{lacks, not-given}
+use Rattle.rules.specs.Laws.Lines.{refusal-line-tells}
 use Rattle.rules.specs.Laws.Passes.{check-passed}
 use Rattle.rules.specs.Laws.Trees.{parent-is, node-sound}
 use Rattle.rules.specs.Laws.TreeVerdicts.{sound-when}
@@ -155,6 +158,14 @@ calls-go-on (Tick time) s h = refl
 calls-go-on Plan s h = refl
 calls-go-on (Vrate v) s h = refl
 
+start-answers : (t : Tree) (r : Rates) (time : ℕ) → started t r time .answer ≡ firstOf (startChecks t r)
+unfolding started startedBy
+start-answers t r time = go (firstOf (startChecks t r))
+  where
+    go : (v : Verdict) → startedBy v t r time .answer ≡ v
+    go Accepted = refl
+    go (Refused x) = refl
+
 -- ---- ".. first checked for 16, 17 and 18": what cannot be read stops the replay, then a record out of its phase; any other
 -- is carried out
 module _ (s : Replay) (goes : isStopped (s .phase) ≡ false) where
@@ -169,3 +180,35 @@ module _ (s : Replay) (goes : isStopped (s .phase) ≡ false) where
   pub in-phase-is-carried-out : (r : Record) (next : ℕ) → inPhase (s .phase) (kindOf r) ≡ true → stepped (Found r next) s ≡ recordStep r s
   unfolding stepped readStep
   in-phase-is-carried-out r next here = rw (goes, here)
+
+  -- ---- 18 exactly when the record is out of its phase: a record of setup that is carried out has its own refusals, and a call
+  -- goes on
+  setup-gives : (ks : List Check) → lacks 18 ks ≡ true → (step : Verdict → Step) → isStopped (step Accepted .replay .phase) ≡ false
+      → ((x : Refusal) → step (Refused x) ≡ stopsAt x s) → step (firstOf ks) ≡ stopsAt WrongPhase s → ⊥
+  setup-gives ks none step on stops e = go (firstOf ks) refl e
+    where
+      go : (v : Verdict) → firstOf ks ≡ v → step v ≡ stopsAt WrongPhase s → ⊥
+      go Accepted f i = true-not-false (ap (λ (t : Step). isStopped (t .replay .phase)) i) on
+      go (Refused x) f i =
+          let same : number x ≡ 18 = refusal-line-tells x WrongPhase (ap (λ (t : Step). t .bytes) (sym (stops x) ∙ i)) in
+          not-given x ks (rw same none) f
+
+  not-18 : (r : Record) → recordStep r s ≡ stopsAt WrongPhase s → ⊥
+  unfolding recordStep nodeStep modelStep startStep nodeChecks rateChecks startChecks treeChecks
+  not-18 (Node p w) e =
+      setup-gives (nodeChecks (grown p w (s .tree))) refl (λ v. nodeStep v (grown p w (s .tree)) s) goes (λ x. refl) e
+  not-18 (ModelOf r) e = setup-gives (rateChecks r) refl (λ v. modelStep v r s) refl (λ x. refl) e
+  not-18 (Start time) e =
+      setup-gives (startChecks (s .tree) (s .rates)) refl (λ v. startStep v (started (s .tree) (s .rates) time .state) s) refl (λ x. refl)
+      (rw (← start-answers (s .tree) (s .rates) time) e)
+  not-18 (BioOf b) e = true-not-false (ap (λ (t : Step). isStopped (t .replay .phase)) e) goes
+  not-18 (Tick time) e = true-not-false (ap (λ (t : Step). isStopped (t .replay .phase)) e) goes
+  not-18 Plan e = true-not-false (ap (λ (t : Step). isStopped (t .replay .phase)) e) goes
+  not-18 (Vrate v) e = true-not-false (ap (λ (t : Step). isStopped (t .replay .phase)) e) goes
+
+  pub refusal-18-exactly-when : (r : Record) (next : ℕ)
+      → (stepped (Found r next) s ≡ stopsAt WrongPhase s) ↔ (inPhase (s .phase) (kindOf r) ≡ false)
+  refusal-18-exactly-when r next = (
+    λ e. is-false (inPhase (s .phase) (kindOf r)) (λ here. not-18 r (sym (in-phase-is-carried-out r next here) ∙ e)),
+    out-of-phase-stops r next,
+  )
