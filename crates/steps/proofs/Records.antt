@@ -2,25 +2,25 @@
 -- Assumes nothing.
 use mathlib.Core.Path.{_≡_, refl, sym, ap, _∙_}
 use mathlib.Core.Bool.{Bool, true, false, _&&_}
-use mathlib.Core.List.{List}
-use Prim.Native.Nat.{ℕ, zero, suc, _+_, _-_, _≤_, _<_}
+use mathlib.Core.List.{List, [], _∷_}
+use mathlib.Core.Logic.{inl, inr}
+use Prim.Native.Nat.{ℕ, suc, _+_, _≤_, _<_}
 use native.Mathlib.Omega.{arith}
-use lib.Dec.{leb, ltb}
-use lib.ListN.{length, getD}
-use lib.Seq.{getD-set-other}
+use lib.Dec.{ltb}
+use lib.ListN.{length}
+use types.Run.{OneOf}
+use denote.Enum.Declared.{tagOf}
 use borrow.Author.Tests.{lt-leb, lt-ltb, le-ltb}
 use Rattle.rules.specs.Numbers.{nodesMost, lineRoom}
-use Rattle.rules.specs.Tree.{parent, last, newestFault}
+use Rattle.rules.specs.Tree.{newestFault}
 use Rattle.rules.specs.Refusals.{isFault, firstOf, nodeChecks, rateChecks}
 use Rattle.rules.specs.Entries.{pricing, pricingBy, started}
 use Rattle.rules.specs.Trace.{kindOf}
 use Rattle.rules.specs.Replay.{Step, within, stopsAt, silent, grown, inPhase, isStopped}
 use Rattle.rules.specs.Replay.{nodeStep, modelStep, startStep, recordStep, readStep, stepped}
 use Rattle.rules.specs.Chunks.{callOf, isCall, isRunning, runs, stepping, steppedTo}
-use Rattle.rules.specs.Invariant.{Playing}
 use Rattle.rules.specs.Laws.Bools.{true-not-false}
 use Rattle.rules.specs.declared.cost.Rates.{Rates}
-use Rattle.rules.specs.declared.cost.Bio.{Bio}
 use Rattle.rules.specs.declared.cost.Model.{Model}
 use Rattle.rules.specs.declared.tree.Tree.{Tree}
 use Rattle.rules.specs.declared.tree.Fault.{Fault}
@@ -33,6 +33,7 @@ use Rattle.rules.specs.declared.refusals.Verdict.the-variants.{Accepted, Refuse
 use Rattle.rules.specs.declared.refusals.Pricing.{Pricing}
 use Rattle.rules.specs.declared.refusals.Pricing.the-variants.{Priced as PricedAs, Refused as Unpriced}
 use Rattle.rules.specs.declared.trace.Record.{Record}
+use Rattle.rules.proofs.trace.Record.{the-type}
 use Rattle.rules.specs.declared.trace.Record.the-variants.{Node, Model as ModelOf, Start, Bio as BioOf, Tick, Plan, Vrate}
 use Rattle.rules.specs.declared.trace.Read.{Read}
 use Rattle.rules.specs.declared.trace.Read.the-variants.{Found, End, Refused as Unread}
@@ -42,7 +43,6 @@ use Rattle.rules.specs.declared.replay.Replay.{Replay}
 use Rattle.rules.specs.declared.replay.Printed.{Printed}
 use Rattle.rules.specs.declared.replay.Printed.the-variants.{Bytes, Short}
 use Rattle.rules.specs.declared.replay.Stepped.{Stepped}
-use Rattle.tree.specs.View.{Climbs}
 use Rattle.steps.specs.Went.{Does}
 
 -- ---- a step that is known
@@ -134,35 +134,38 @@ never-before-start kind a b Running e h = true-not-false refl h
 never-before-start kind a b Stopped e h = true-not-false e refl
 
 pub setup-only : {read : Read} {r : Record} {next : ℕ} (p : Phase) {b : Bool} → read ≡ Found r next → b ≡ inPhase p (kindOf r) → b ≡ true
-    → runs p read ≡ false → leb 4 (kindOf r) ≡ false
+    → runs p read ≡ false → kindOf r < 4
 unfolding runs isCall callOf kindOf inPhase
 setup-only {read} {r} {next} p f e t h = go r (rw f at h) (sym e ∙ t)
   where
-    go : (r : Record) → runs p (Found r next) ≡ false → inPhase p (kindOf r) ≡ true → leb 4 (kindOf r) ≡ false
-    go (Node q w) h e = refl
-    go (ModelOf q) h e = refl
-    go (Start time) h e = refl
+    go : (r : Record) → runs p (Found r next) ≡ false → inPhase p (kindOf r) ≡ true → kindOf r < 4
+    go (Node q w) h e = omega arith
+    go (ModelOf q) h e = omega arith
+    go (Start time) h e = omega arith
     go (BioOf b) h e = absurd (never-before-start 4 refl refl p e h)
     go (Tick time) h e = absurd (never-before-start 5 refl refl p e h)
     go Plan h e = absurd (never-before-start 6 refl refl p e h)
     go (Vrate v) h e = absurd (never-before-start 7 refl refl p e h)
 
-module _ {r : Record} (early : leb 4 (kindOf r) ≡ false) where
-  pub no-bio : (b : Bio) → r ≡ BioOf b → ⊥
-  unfolding kindOf
-  no-bio b e = true-not-false refl (rw e at early)
+-- the arm for the rest has the calls' variants, from the fourth on
+kind-is : (r : Record) → kindOf r ≡ suc (tagOf the-type r)
+unfolding kindOf
+kind-is (Node p w) = refl
+kind-is (ModelOf q) = refl
+kind-is (Start time) = refl
+kind-is (BioOf b) = refl
+kind-is (Tick time) = refl
+kind-is Plan = refl
+kind-is (Vrate v) = refl
 
-  pub no-tick : (time : ℕ) → r ≡ Tick time → ⊥
-  unfolding kindOf
-  no-tick time e = true-not-false refl (rw e at early)
+late : {k : ℕ} → OneOf (3 ∷ 4 ∷ 5 ∷ 6 ∷ []) k → 3 ≤ k
+late (inl e) = omega arith
+late (inr (inl e)) = omega arith
+late (inr (inr (inl e))) = omega arith
+late (inr (inr (inr e))) = omega arith
 
-  pub no-plan : r ≡ Plan → ⊥
-  unfolding kindOf
-  no-plan e = true-not-false refl (rw e at early)
-
-  pub no-vrate : (v : ℕ) → r ≡ Vrate v → ⊥
-  unfolding kindOf
-  no-vrate v e = true-not-false refl (rw e at early)
+pub no-call : (r : Record) → kindOf r < 4 → OneOf (3 ∷ 4 ∷ 5 ∷ 6 ∷ []) (tagOf the-type r) → ⊥
+no-call r early rest = omega (arith, kind-is r, late rest)
 
 -- ---- one step in a lent buffer
 module _ (read : Read) (s : Replay) (lent : List ℕ) where

@@ -1,9 +1,8 @@
 // One record: 16 and 17 are found by the reader, 18 is decided here, and the record's own refusals where it is carried out.
 ghost use mathlib.Core.Path.{_≡_};
 ghost use mathlib.Core.Bool.{false};
-ghost use Prim.Native.Nat.{_≤_};
+ghost use Prim.Native.Nat.{_≤_, _<_};
 ghost use lib.ListN.{length};
-ghost use lib.Dec.{leb};
 ghost use Rattle.rules.specs.Trace.{kindOf, readAt};
 ghost use Rattle.rules.specs.Replay.{stopsAt, inPhase, isStopped, recordStep, readStep};
 ghost use Rattle.rules.specs.Chunks.{runs, stepping, steppedTo};
@@ -60,19 +59,16 @@ fn in_phase(phase: Phase, r: Record) -> bool
     }
 }
 
-// A record of setup in its phase. The others are calls, and none of them is in its phase before start.
+// A record of setup in its phase. The others are calls, and none of them comes here: in its phase a call is run.
 fn carried(r: Record, s: Replay, out: &mut [u8]) -> After
-    requires { ⌜ Playing s × (5 ≤ length (now out)) × (leb 4 (kindOf r) ≡ false) ⌝ }
+    requires { ⌜ Playing s × (5 ≤ length (now out)) × (kindOf r < 4) ⌝ }
     ensures { λ w. ⌜ Does (recordStep r s) (w .count) (w .replay) (now (out .entry)) (now (out .exit)) ⌝ }
 {
     match r {
         Record::Node(parent, weight) => setup::node(parent, weight, s, out),
         Record::Model(rates) => setup::model(rates, s, out),
         Record::Start(time) => setup::start(time, s, out),
-        Record::Bio(_) => stopped(Refusal::WrongPhase, s, out),
-        Record::Tick(_) => stopped(Refusal::WrongPhase, s, out),
-        Record::Plan => stopped(Refusal::WrongPhase, s, out),
-        Record::Vrate(_) => stopped(Refusal::WrongPhase, s, out),
+        _ => stopped(Refusal::WrongPhase, s, out),
     }
 }
 
