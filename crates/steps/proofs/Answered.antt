@@ -84,10 +84,12 @@ module _ {r : ℕ} (o₀ o : List ℕ) where
 
   pub shares-put : {answer : Verdict} (active : ℕ) (shares : List ℕ) → answer ≡ Accepted → Written (shareLinesOf active shares) r o₀ o
       → Written (planLinesOf answer active shares) r o₀ o
+  unfolding planLinesOf
   shares-put active shares e w = rw e w
 
   pub unplanned-put : {answer : Verdict} {x : Refusal} (active : ℕ) (shares : List ℕ) → answer ≡ Refused x → Written (refusalLine x) r o₀ o
       → Written (planLinesOf answer active shares) r o₀ o
+  unfolding planLinesOf
   unplanned-put active shares e w = rw e w
 
 -- ---- what a call printed and left
@@ -95,7 +97,7 @@ abbrev pub Answered : Call → Controller → ℕ → List ℕ → List ℕ → 
 Answered call c r o₀ o d = Written (calling call c .bytes) r o₀ o × (d ≡ calling call c .state)
 
 plan-lines : (answer : Verdict) (c : Controller) → planLinesOf answer (c .active) (c .shares) ≡ planLines answer c
-unfolding planLines
+unfolding planLinesOf planLines
 plan-lines Accepted c = sym (share-lines c)
 plan-lines (Refused x) c = refl
 

@@ -6,7 +6,7 @@ use mathlib.Core.List.{List, [], _++_, append-nil, append-assoc}
 use Prim.Native.Nat.{ℕ, zero, suc, _+_, _-_, _≤_, _<_}
 use native.Mathlib.Nat.{sub-zero, sub-add-eq}
 use native.Mathlib.Omega.{arith}
-use lib.ListN.{length, length-append, length-drop}
+use lib.ListN.{length}
 use borrow.Author.Tests.{ltb-false}
 use Rattle.rules.specs.Numbers.{lineRoom}
 use Rattle.rules.specs.Trace.{readAt}
@@ -14,7 +14,7 @@ use Rattle.rules.specs.Replay.{isStopped, readStep, nextPlace, stepped}
 use Rattle.rules.specs.Chunks.{Run, callOf, isCall, isRunning, runs, runFrom, isEnd, wantsBytes, halts, pauseOf, nothing, printedBefore, partFrom, part, fed}
 use Rattle.rules.specs.Invariant.{Playing}
 use Rattle.rules.specs.Laws.Bools.{true-not-false, and-left, and-right, or-not-left, or-not-right}
-use Rattle.rules.specs.Laws.Buffers.{Written, Stands, restOf, putBack, stands-none, stands-kept, stands-rest, stands-more}
+use Rattle.rules.specs.Laws.Buffers.{Written, Stands, restOf, putBack, stands-none, stands-kept, stands-rest, stands-fits, stands-more}
 use Rattle.rules.specs.Laws.Replays.{read-step-plays}
 use Rattle.rules.specs.Laws.Runs.{Continues, holding, call-moves, run-keeps, run-continues, run-moves}
 use Rattle.rules.specs.Laws.Chunks.{stepAt, nextAt, After, after-a-step, part-inside}
@@ -40,14 +40,14 @@ module _ (f : ℕ) (last : Bool) (trace : List ℕ) (room at : ℕ) (s : Replay)
   part-goes e = rw e
 
 -- what is known of a replay that does not halt
-record Going (read : Read) (room : ℕ) (s : Replay) : Type 0 where
+record Unhalted (read : Read) (room : ℕ) (s : Replay) : Type 0 where
   on : isStopped (s .phase) ≡ false
   there : isEnd read ≡ false
   wide : lineRoom ≤ room
 
-going : (last : Bool) (read : Read) (room : ℕ) (s : Replay) → halts last read room s ≡ false → Going read room s
+unhalted : (last : Bool) (read : Read) (room : ℕ) (s : Replay) → halts last read room s ≡ false → Unhalted read room s
 unfolding halts
-going last read room s e =
+unhalted last read room s e =
     let here = or-not-right (wantsBytes last read) _ (or-not-right (isStopped (s .phase)) _ e) in
     record {
       on = or-not-left (isStopped (s .phase)) _ e;
@@ -94,8 +94,8 @@ module _ {last : Bool} {trace : List ℕ} {place : ℕ} {s₀ : Replay} {o₀ o 
   told b e = rw (← v .found, ← stands-kept (v .front)) e
 
   module _ (goes : halts last read (length o - count) s ≡ false) where
-    known : Going read (length o - count) s
-    known = going last read (length o - count) s goes
+    known : Unhalted read (length o - count) s
+    known = unhalted last read (length o - count) s goes
 
     pub asks : lineRoom ≤ length (restOf o count)
     asks = rw (stands-rest (v .front), ← stands-kept (v .front)) (known .wide)
@@ -127,11 +127,6 @@ module _ {last : Bool} {trace : List ℕ} {place : ℕ} {s₀ : Replay} {o₀ o 
 
     module _ {r : ℕ} {after : Replay} {ys : List ℕ} (kept : length ys ≡ length (restOf o count))
         (does : Does (readStep read s) r after (restOf o count) ys) where
-      pub fits : count + r ≤ length o₀
-      fits =
-          let long = rw (does .0 .1, length-append, length-drop, stands-rest (v .front)) at kept in
-          omega (arith, does .0 .0, v .front .within)
-
       pub turn : {at' : ℕ} {read' : Read} → at' ≡ nextPlace read at → read' ≡ readAt trace at'
           → Feeding last trace place s₀ o₀ (putBack o count ys) at' (count + r) read' (after .phase) after
       turn {at'} {read'} to found = go (v .turns) refl (v .enough (known .on))
@@ -142,7 +137,7 @@ module _ {last : Bool} {trace : List ℕ} {place : ℕ} {s₀ : Replay} {o₀ o 
           go (suc g) e few = record {
             turns = g;
             bytes = v .bytes ++ readStep read s .bytes;
-            front = stands-more (v .front) (readStep read s .bytes) ys r (does .0) fits;
+            front = stands-more (v .front) (readStep read s .bytes) ys r (does .0) (stands-fits (v .front) (readStep read s .bytes) ys r (does .0) kept);
             all = rw (to, does .1, does .0 .0) (more g e);
             enough = λ on. let m = moves (rw (does .1) at on) in (omega (arith, m .0, m .1, few .1), omega (arith, m .0, m .1, few .1));
             plays = rw (does .1) (read-step-plays read s (v .plays));
@@ -178,18 +173,12 @@ module _ {last : Bool} {trace : List ℕ} {place : ℕ} {s₀ : Replay} {o₀ o 
       continues = run-continues last trace n (v .turns) (length (restOf o count)) at s awake (v .enough (known .on))
 
       module _ {r : ℕ} {ys : List ℕ} (kept : length ys ≡ length (restOf o count)) (w : Written (here .bytes) r (restOf o count) ys) where
-        pub run-fits : count + r ≤ length o₀
-        run-fits =
-            let long : length (here .bytes) + (length (restOf o count) - length (here .bytes)) ≡ length (restOf o count) =
-            rw (length-append, length-drop) at (ap length (sym (w .1)) ∙ kept) in
-            omega (arith, long, w .0, stands-rest (v .front), v .front .within)
-
         pub run-turn : {at' : ℕ} {d : Controller} {read' : Read} → at' ≡ here .place → d ≡ here .state → read' ≡ readAt trace at'
             → Feeding last trace place s₀ o₀ (putBack o count ys) at' (count + r) read' phase (holding s d)
         run-turn {at'} {d} {read'} to state found = record {
           turns = continues .turns;
           bytes = v .bytes ++ here .bytes;
-          front = stands-more (v .front) (here .bytes) ys r w run-fits;
+          front = stands-more (v .front) (here .bytes) ys r w (stands-fits (v .front) (here .bytes) ys r w kept);
           all =
               v .all ∙ ap (printedBefore (v .bytes)) (ap (λ (room : ℕ). partFrom (suc (v .turns)) last trace room at s) (sym (stands-rest (v .front))) ∙ continues .all)
               ∙ rw (to, state, w .0, sub-add-eq, ← stands-rest (v .front), append-assoc);

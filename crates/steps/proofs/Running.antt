@@ -1,13 +1,13 @@
 -- Calls in a row: at the loop's head, what was called so far stands at the front, and the rest of the run is still to come.
 -- Assumes nothing.
 use mathlib.Core.Path.{_≡_, refl, sym, ap, _∙_}
-use mathlib.Core.Bool.{Bool, true, false, cond, _&&_}
-use mathlib.Core.List.{List, [], _∷_, _++_, append-assoc, append-nil}
+use mathlib.Core.Bool.{Bool, true, false, _&&_}
+use mathlib.Core.List.{List, [], _++_, append-assoc, append-nil}
 use mathlib.Core.Logic.{⊎-elim, inl, inr, _⊎_}
 use Prim.Native.Nat.{ℕ, zero, suc, _+_, _-_, _≤_, _<_}
 use native.Mathlib.Omega.{arith}
 use lib.Dec.{leb, ltb}
-use lib.ListN.{length, length-append, length-drop}
+use lib.ListN.{length}
 use borrow.Author.Tests.{lt-leb, leb-true, leb-false, ltb-true, ltb-false}
 use Rattle.rules.specs.Numbers.{lineRoom}
 use Rattle.rules.specs.Trace.{readAt}
@@ -15,7 +15,7 @@ use Rattle.rules.specs.Replay.{nextPlace, readStep}
 use Rattle.rules.specs.Chunks.{Run, callOf, isCall, isRunning, runs, calling, still, calledBefore, runFrom}
 use Rattle.rules.specs.Invariant.{Sound}
 use Rattle.rules.specs.Laws.Bools.{and-left, and-right}
-use Rattle.rules.specs.Laws.Buffers.{Written, Stands, restOf, putBack, stands-none, stands-kept, stands-rest, stands-more}
+use Rattle.rules.specs.Laws.Buffers.{Written, Stands, restOf, putBack, stands-none, stands-kept, stands-rest, stands-fits, stands-more}
 use Rattle.rules.specs.Laws.Runs.{calling-keeps, call-steps, holding, run-goes}
 use Rattle.rules.specs.declared.cost.Bio.{Bio}
 use Rattle.rules.specs.declared.budget.Controller.{Controller}
@@ -82,13 +82,13 @@ module _ (left room : ℕ) where
       go false f h = inl (omega (arith, ltb-false 0 left f))
 
 -- ---- the loop
-pub record Going (trace o₀ : List ℕ) (most place : ℕ) (c₀ : Controller) (o : List ℕ) (c : Controller) (at count left : ℕ) : Type 0 where
+pub record Running (trace o₀ : List ℕ) (most place : ℕ) (c₀ : Controller) (o : List ℕ) (c : Controller) (at count left : ℕ) : Type 0 where
   pub bytes : List ℕ
   pub front : Stands bytes o₀ o count
   pub sound : Sound c
   pub same : runFrom most trace (length o₀) place c₀ ≡ calledBefore bytes (runFrom left trace (length o₀ - count) at c)
 
-pub begun : (trace o₀ : List ℕ) (most place : ℕ) (c : Controller) → Sound c → Going trace o₀ most place c o₀ c place 0 most
+pub begun : (trace o₀ : List ℕ) (most place : ℕ) (c : Controller) → Sound c → Running trace o₀ most place c o₀ c place 0 most
 begun trace o₀ most place c sound =
     let all : length o₀ ≡ length o₀ - 0 = omega arith in
     record {
@@ -99,7 +99,7 @@ begun trace o₀ most place c sound =
     }
 
 module _ {trace o₀ : List ℕ} {most place : ℕ} {c₀ : Controller} {o : List ℕ} {c : Controller} {at count left : ℕ}
-    (v : Going trace o₀ most place c₀ o c at count left) where
+    (v : Running trace o₀ most place c₀ o c at count left) where
   pub asks : (k : ℕ) → k ≤ lineRoom → lineRoom ≤ length o - count → k ≤ length (restOf o count)
   asks k l h = rw (stands-rest (v .front)) (omega (arith, stands-kept (v .front)))
 
@@ -108,15 +108,6 @@ module _ {trace o₀ : List ℕ} {most place : ℕ} {c₀ : Controller} {o : Lis
 
   pub falls : (ltb 0 left && leb lineRoom (length o - count)) ≡ true → left - 1 < left
   falls e = omega (arith, goes e .0)
-
-  -- what a call wrote into the rest fits there
-  pub fits : (call : Call) (d : Controller) (r : ℕ) (ys : List ℕ) → Answered call c r (restOf o count) ys d → length ys ≡ length (restOf o count)
-      → count + r ≤ length o₀
-  fits call d r ys answered l =
-      let x : List ℕ = calling call c .bytes in
-      let w : Written x r (restOf o count) ys = answered .0 in
-      let a : length x + (length (restOf o count) - length x) ≡ length (restOf o count) = rw (length-append, length-drop) at (ap length (sym (w .1)) ∙ l) in
-      omega (arith, a, w .0, stands-rest (v .front), v .front .within)
 
   pub ran : runFrom left trace (length o₀ - count) at c ≡ still at c
       → Written (runFrom most trace (length o₀) place c₀ .bytes) count o₀ o
@@ -144,7 +135,7 @@ module _ {trace o₀ : List ℕ} {most place : ℕ} {c₀ : Controller} {o : Lis
     pub called : (call' : Call) {next : ℕ} {d : Controller} → 0 < left → lineRoom ≤ length o - count → call ≡ call' → isCall call' ≡ true
         → next ≡ nextPlace read at → (r : ℕ) (ys : List ℕ) → Answered call' c r (restOf o count) ys d
         → length ys ≡ length (restOf o count)
-        → Going trace o₀ most place c₀ (putBack o count ys) d next (count + r) (left - 1)
+        → Running trace o₀ most place c₀ (putBack o count ys) d next (count + r) (left - 1)
     called call' {next} {d} some room i is n r ys answered l =
         let w : Written (calling call' c .bytes) r (restOf o count) ys = answered .0 in
         let here : callOf (readAt trace at) ≡ call' = ap callOf (sym e) ∙ sym k ∙ i in
@@ -153,7 +144,7 @@ module _ {trace o₀ : List ℕ} {most place : ℕ} {c₀ : Controller} {o : Lis
         let less : length o₀ - count - length (calling call' c .bytes) ≡ length o₀ - (count + r) = omega (arith, w .0) in
         record {
           bytes = v .bytes ++ calling call' c .bytes;
-          front = stands-more (v .front) (calling call' c .bytes) ys r w (fits call' d r ys answered l);
+          front = stands-more (v .front) (calling call' c .bytes) ys r w (stands-fits (v .front) (calling call' c .bytes) ys r w l);
           sound = rw (answered .1) (calling-keeps call' (v .sound));
           same = v .same ∙ ap (calledBefore (v .bytes)) turn ∙ rw (here, ← e, ← n, ← (answered .1), less, append-assoc);
         }

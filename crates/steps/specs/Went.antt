@@ -22,6 +22,6 @@ CanPrint (Released n) places = (n ≤ places) × (13 * n ≤ lineRoom)
 CanPrint (Unticked x) places = Unit {0}
 
 -- a plan's lines, by the active leaves and their shares alone
-abbrev pub planLinesOf : Verdict → ℕ → List ℕ → List ℕ
+unfoldable pub planLinesOf : Verdict → ℕ → List ℕ → List ℕ
 planLinesOf Accepted active shares = shareLinesOf active shares
 planLinesOf (Refused x) active shares = refusalLine x

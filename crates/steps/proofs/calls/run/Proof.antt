@@ -1,17 +1,18 @@
 -- `steps::calls::run` meets its contract: each turn of the loop is one call of the run, and its lines stand behind those before.
 -- Assumes nothing.
-use Prim.Native.Nat.{_-_}
 use native.Mathlib.Omega.{arith}
 use borrow.Author.Needs.{needs}
 use denote.Ref.{now}
-use Rattle.rules.specs.Laws.Buffers.{stands-left, stands-kept}
+use Rattle.rules.specs.Replay.{answerLine, tickLines, verdictLines}
+use Rattle.rules.specs.Laws.Buffers.{stands-left, stands-kept, stands-fits}
+use Rattle.steps.specs.Went.{planLinesOf}
 use Rattle.steps.proofs.Answered.{can-print, bio-answered, tick-answered, plan-answered, vrate-answered}
-use Rattle.steps.proofs.Running.{Going, begun, goes, falls, ends, asks, fits, called, no-call, bio-is-call, tick-is-call, plan-is-call, vrate-is-call}
+use Rattle.steps.proofs.Running.{Running, begun, goes, falls, ends, asks, called, no-call, bio-is-call, tick-is-call, plan-is-call, vrate-is-call}
 use Rattle.steps.proofs.calls.run.Statement.{statement}
 use Rattle.steps.proofs.calls.run.Tie as tie
 
 abbrev Inv-loop : tie.InvT-loop
-Inv-loop trace place most out₀ c₀ at₀ count₀ left₀ out c at count left = Going trace out₀ most place c₀ out c at count left
+Inv-loop trace place most out₀ c₀ at₀ count₀ left₀ out c at count left = Running trace out₀ most place c₀ out c at count left
 
 abbrev μ-loop : tie.MeasureT-loop
 μ-loop trace place most out₀ c₀ at₀ count₀ left₀ out c at count left = left
@@ -70,7 +71,7 @@ add-count c =
     let put = c .before .before .put-answer in
     let head = c .before .before .before .before .before .before .before .before .before .before .before .before in
     let start = head .before .before .before in
-    omega (arith, fits (head .loop .inv) _ _ (put .result) _ (bio-answered _ _ _ _ (c .before .before .before .before .submit .ensures) (put .ensures)) (put .kept .1 .1 .0), start .good .1 .1 .1 .1 .0 .0)
+    omega (arith, stands-fits (head .loop .inv .front) (answerLine _ _) _ (put .result) (put .ensures) (put .kept .1 .1 .0), start .good .1 .1 .1 .1 .0 .0)
 
 loop-less : tie.Need-loop-less Inv-loop μ-loop
 loop-less c = falls (c .before .before .before .before .before .before .before .before .before .before .before .before .before .loop .inv) (c .before .before .before .before .before .before .before .before .before .before .before .before .loop-test .taken)
@@ -115,7 +116,7 @@ add-count-2 c =
     let put = c .before .before .put-ticked in
     let head = c .before .before .before .before .before .before .before .before .before .before .before .before .before .before .before in
     let start = head .before .before .before in
-    omega (arith, fits (head .loop .inv) _ _ (put .result) _ (tick-answered _ _ _ _ (c .before .before .before .before .before .before .tick .ensures .0) (c .before .before .before .before .before .before .tick .ensures .1) (put .ensures)) (put .kept .1 .1 .0), start .good .1 .1 .1 .1 .0 .0)
+    omega (arith, stands-fits (head .loop .inv .front) (tickLines _ _) _ (put .result) (put .ensures) (put .kept .1 .1 .0), start .good .1 .1 .1 .1 .0 .0)
 
 loop-less-2 : tie.Need-loop-less-2 Inv-loop μ-loop
 loop-less-2 c = falls (c .before .before .before .before .before .before .before .before .before .before .before .before .before .before .before .before .loop .inv) (c .before .before .before .before .before .before .before .before .before .before .before .before .before .before .before .loop-test .taken)
@@ -152,7 +153,7 @@ add-count-3 c =
     let put = c .before .before .put-planned in
     let head = c .before .before .before .before .before .before .before .before .before .before .before .before .before .before in
     let start = head .before .before .before in
-    omega (arith, fits (head .loop .inv) _ _ (put .result) _ (plan-answered _ _ _ (c .before .before .before .before .before .before .before .plan .ensures) (put .ensures)) (put .kept .1 .1 .1 .0), start .good .1 .1 .1 .1 .0 .0)
+    omega (arith, stands-fits (head .loop .inv .front) (planLinesOf _ _ _) _ (put .result) (put .ensures) (put .kept .1 .1 .1 .0), start .good .1 .1 .1 .1 .0 .0)
 
 loop-less-3 : tie.Need-loop-less-3 Inv-loop μ-loop
 loop-less-3 c = falls (c .before .before .before .before .before .before .before .before .before .before .before .before .before .before .loop .inv) (c .before .before .before .before .before .before .before .before .before .before .before .before .before .loop-test .taken)
@@ -189,7 +190,7 @@ add-count-4 c =
     let put = c .before .before .put-verdict in
     let head = c .before .before .before .before .before .before .before .before .before .before .before .before in
     let start = head .before .before .before in
-    omega (arith, fits (head .loop .inv) _ _ (put .result) _ (vrate-answered _ _ _ _ (c .before .before .before .before .vrate .ensures) (put .ensures)) (put .kept .1 .0), start .good .1 .1 .1 .1 .0 .0)
+    omega (arith, stands-fits (head .loop .inv .front) (verdictLines _) _ (put .result) (put .ensures) (put .kept .1 .0), start .good .1 .1 .1 .1 .0 .0)
 
 loop-less-4 : tie.Need-loop-less-4 Inv-loop μ-loop
 loop-less-4 c = falls (c .before .before .before .before .before .before .before .before .before .before .before .before .before .loop .inv) (c .before .before .before .before .before .before .before .before .before .before .before .before .loop-test .taken)

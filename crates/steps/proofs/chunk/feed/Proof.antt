@@ -8,9 +8,10 @@ use native.Mathlib.Omega.{arith}
 use borrow.Author.Needs.{needs}
 use borrow.Author.Tests.{not-true, not-false}
 use denote.Ref.{now}
-use Rattle.rules.specs.Chunks.{halts}
-use Rattle.rules.specs.Laws.Buffers.{stands-left, stands-kept}
-use Rattle.steps.proofs.Feeding.{Feeding, left, begun, asks-little, fits, turn, falls, run-fits, run-turn, run-falls, done, printed, inside}
+use Rattle.rules.specs.Replay.{readStep}
+use Rattle.rules.specs.Chunks.{halts, runFrom}
+use Rattle.rules.specs.Laws.Buffers.{stands-left, stands-kept, stands-fits}
+use Rattle.steps.proofs.Feeding.{Feeding, left, begun, asks-little, turn, falls, run-turn, run-falls, done, printed, inside}
 use Rattle.steps.proofs.Records.{no-run}
 use Rattle.steps.proofs.chunk.feed.Statement.{statement}
 use Rattle.steps.proofs.chunk.feed.Tie as tie
@@ -68,11 +69,9 @@ run-requires c κs = c .before .before .before .before .before .loop .inv .plays
 add-count : tie.Need-add-count Inv-loop μ-loop
 add-count c =
     let ran = c .before .before .before in
-    let called = ran .before .before .before in
-    let tested = called .before in
-    let head = tested .before .before in
+    let head = ran .before .before .before .before .before .before in
     let start = head .before .before .before .before in
-    let within = run-fits (head .loop .inv) (goes-at tested) (called .runs .ensures) (ran .before .before .if2 .taken) _ (ran .run .kept .1 .1 .1 .1 .0) (ran .run .ensures .0) in
+    let within = stands-fits (head .loop .inv .front) (runFrom _ _ _ _ _ .bytes) _ _ (ran .run .ensures .0) (ran .run .kept .1 .1 .1 .1 .0) in
     omega (arith, within, start .good .1 .1 .1 .1 .0 .0)
 
 read-at-requires-2 : tie.Need-read-at-requires-2 Inv-loop μ-loop
@@ -114,10 +113,9 @@ went-requires c κs =
 add-count-2 : tie.Need-add-count-2 Inv-loop μ-loop
 add-count-2 c =
     let gone = c .before .before .before in
-    let tested = gone .before .before .before .before in
-    let head = tested .before .before in
+    let head = gone .before .before .before .before .before .before in
     let start = head .before .before .before .before in
-    let within = fits (head .loop .inv) (goes-at tested) (gone .went .kept .1 .1 .0) (gone .went .ensures) in
+    let within = stands-fits (head .loop .inv .front) (readStep _ _ .bytes) _ _ (gone .went .ensures .0) (gone .went .kept .1 .1 .0) in
     omega (arith, within, start .good .1 .1 .1 .1 .0 .0)
 
 next-place-requires : tie.Need-next-place-requires Inv-loop μ-loop
