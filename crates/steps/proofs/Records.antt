@@ -2,7 +2,7 @@
 -- Assumes nothing.
 use mathlib.Core.Path.{_≡_, refl, sym, ap, _∙_}
 use mathlib.Core.Bool.{Bool, true, false, _&&_}
-use mathlib.Core.List.{List, [], _∷_}
+use mathlib.Core.List.{List, [], _∷_, append-nil}
 use mathlib.Core.Logic.{inl, inr}
 use Prim.Native.Nat.{ℕ, suc, _+_, _≤_, _<_}
 use native.Mathlib.Omega.{arith}
@@ -15,16 +15,19 @@ use Rattle.rules.specs.Numbers.{nodesMost, lineRoom}
 use Rattle.rules.specs.Tree.{newestFault}
 use Rattle.rules.specs.Refusals.{isFault, firstOf, nodeChecks, rateChecks}
 use Rattle.rules.specs.Entries.{pricing, pricingBy, started}
-use Rattle.rules.specs.Trace.{kindOf}
+use Rattle.rules.specs.Trace.{kindOf, readAt}
 use Rattle.rules.specs.Replay.{Step, within, stopsAt, silent, grown, inPhase, isStopped}
-use Rattle.rules.specs.Replay.{nodeStep, modelStep, startStep, recordStep, readStep, stepped}
-use Rattle.rules.specs.Chunks.{callOf, isCall, isRunning, runs, stepping, steppedTo}
-use Rattle.rules.specs.Laws.Bools.{true-not-false}
+use Rattle.rules.specs.Replay.{nodeStep, modelStep, startStep, recordStep, readStep, stepped, nextPlace}
+use Rattle.rules.specs.Chunks.{Run, callOf, isCall, isRunning, runs, calling, still, calledBefore, runFrom, stepping, steppedTo}
+use Rattle.rules.specs.Laws.Bools.{true-not-false, and-right}
+use Rattle.rules.specs.Laws.Buffers.{Written}
+use Rattle.rules.specs.Laws.Runs.{call-steps, holding, run-goes}
 use Rattle.rules.specs.declared.cost.Rates.{Rates}
 use Rattle.rules.specs.declared.cost.Model.{Model}
 use Rattle.rules.specs.declared.tree.Tree.{Tree}
 use Rattle.rules.specs.declared.tree.Fault.{Fault}
 use Rattle.rules.specs.declared.tree.Fault.the-variants.{Count}
+use Rattle.rules.specs.declared.budget.Controller.{Controller}
 use Rattle.rules.specs.declared.budget.Outcome.{Outcome}
 use Rattle.rules.specs.declared.refusals.Refusal.{Refusal}
 use Rattle.rules.specs.declared.refusals.Refusal.the-variants.{BadTree, WrongPhase}
@@ -166,6 +169,21 @@ late (inr (inr (inr e))) = omega arith
 
 pub no-call : (r : Record) → kindOf r < 4 → OneOf (3 ∷ 4 ∷ 5 ∷ 6 ∷ []) (tagOf the-type r) → ⊥
 no-call r early rest = omega (arith, kind-is r, late rest)
+
+-- ---- a call in its phase is run, alone
+pub one-call : (trace : List ℕ) (at : ℕ) (s : Replay) (o₀ : List ℕ) {read : Read} {phase : Phase} {b : Bool} {count : ℕ} {o : List ℕ} {d : Controller}
+    → read ≡ readAt trace at → b ≡ runs phase read → b ≡ true → s .phase ≡ phase → lineRoom ≤ length o₀
+    → Written (runFrom 1 trace (length o₀) at (s .state) .bytes) count o₀ o → d ≡ runFrom 1 trace (length o₀) at (s .state) .state
+    → Does (readStep (readAt trace at) s) count (holding s d) o₀ o
+unfolding runs runFrom
+one-call trace at s o₀ {read} {phase} {b} e f t q l w i =
+    let on : runs (s .phase) (readAt trace at) ≡ true = rw (q, ← e) (sym f ∙ t) in
+    let is : isCall (callOf (readAt trace at)) ≡ true = and-right (isRunning (s .phase)) (isCall (callOf (readAt trace at))) on in
+    let one : runFrom 1 trace (length o₀) at (s .state)
+    ≡ calledBefore (calling (callOf (readAt trace at)) (s .state) .bytes)
+    (still (nextPlace (readAt trace at) at) (calling (callOf (readAt trace at)) (s .state) .state)) =
+    run-goes trace 1 (length o₀) at (s .state) (omega arith) is l in
+    rw (call-steps (readAt trace at) s on) (rw (one, append-nil) at w, ap (holding s) (i ∙ ap (λ (r : Run). r .state) one))
 
 -- ---- one step in a lent buffer
 module _ (read : Read) (s : Replay) (lent : List ℕ) where

@@ -8,10 +8,10 @@ ghost use Rattle.rules.specs.Replay.{stopsAt, inPhase, isStopped, recordStep, r
 ghost use Rattle.rules.specs.Chunks.{runs, stepping, steppedTo};
 ghost use Rattle.rules.specs.Invariant.{Playing};
 ghost use Rattle.steps.specs.Went.{Does};
-use crate::calls::LINE_ROOM;
-use crate::calls::run;
-use crate::calls::runs;
 use crate::setup;
+use calls::LINE_ROOM;
+use calls::run;
+use calls::runs;
 use rules::refusals::Refusal;
 use rules::replay::Phase;
 use rules::replay::Printed;

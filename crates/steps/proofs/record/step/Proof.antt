@@ -4,8 +4,7 @@ use mathlib.Core.Path.{refl, sym, _∙_}
 use borrow.Author.Needs.{needs}
 use denote.Ref.{now}
 use Rattle.rules.specs.Trace.{readAt}
-use Rattle.steps.proofs.Records.{steps-not, steps-no-more, steps-on, same-read, no-run}
-use Rattle.steps.proofs.Running.{one-call}
+use Rattle.steps.proofs.Records.{steps-not, steps-no-more, steps-on, same-read, no-run, one-call}
 use Rattle.steps.proofs.record.step.Statement.{statement}
 use Rattle.steps.proofs.record.step.Tie as tie
 

@@ -1,15 +1,15 @@
--- `steps::calls::run` meets its contract: each turn of the loop is one call of the run, and its lines stand behind those before.
+-- `calls::run` meets its contract: each turn of the loop is one call of the run, and its lines stand behind those before.
 -- Assumes nothing.
 use native.Mathlib.Omega.{arith}
 use borrow.Author.Needs.{needs}
 use denote.Ref.{now}
 use Rattle.rules.specs.Replay.{answerLine, tickLines, verdictLines}
 use Rattle.rules.specs.Laws.Buffers.{stands-left, stands-kept, stands-fits}
-use Rattle.steps.specs.Went.{planLinesOf}
-use Rattle.steps.proofs.Answered.{can-print, bio-answered, tick-answered, plan-answered, vrate-answered}
-use Rattle.steps.proofs.Running.{Running, begun, goes, falls, ends, asks, called, no-call, bio-is-call, tick-is-call, plan-is-call, vrate-is-call}
-use Rattle.steps.proofs.calls.run.Statement.{statement}
-use Rattle.steps.proofs.calls.run.Tie as tie
+use Rattle.calls.specs.Calls.{planLinesOf}
+use Rattle.calls.proofs.Answered.{can-print, bio-answered, tick-answered, plan-answered, vrate-answered}
+use Rattle.calls.proofs.Running.{Running, begun, goes, falls, ends, asks, called, no-call, bio-is-call, tick-is-call, plan-is-call, vrate-is-call}
+use Rattle.calls.proofs.run.Statement.{statement}
+use Rattle.calls.proofs.run.Tie as tie
 
 abbrev Inv-loop : tie.InvT-loop
 Inv-loop trace place most out₀ c₀ at₀ count₀ left₀ out c at count left = Running trace out₀ most place c₀ out c at count left

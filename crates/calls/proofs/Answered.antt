@@ -31,7 +31,7 @@ use Rattle.rules.specs.declared.trace.Read.{Read}
 use Rattle.rules.specs.declared.trace.Read.the-variants.{Found}
 use Rattle.rules.specs.declared.replay.Call.{Call}
 use Rattle.rules.specs.declared.replay.Call.the-variants.{Bio as CallBio, Tick as CallTick, Plan as CallPlan, Vrate as CallVrate}
-use Rattle.steps.specs.Went.{CanPrint, planLinesOf}
+use Rattle.calls.specs.Calls.{CanPrint, planLinesOf}
 
 -- ---- an accepted tick releases no more than the lent buffer has places
 released-fit : {c : Controller} → Sound c → (time : ℕ) (lent : List ℕ) {done : Ticked} {n : ℕ} → done ≡ ticked time lent c

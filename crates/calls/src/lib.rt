@@ -2,14 +2,14 @@
 // answer; a refused one changes nothing, and the replay goes on. The state goes from call to call in one function,
 // since each function that it is handed through copies it.
 ghost use mathlib.Core.Path.{_≡_};
-ghost use Prim.Native.Nat.{_*_, _≤_};
+ghost use Prim.Native.Nat.{_≤_};
 ghost use lib.ListN.{length};
 ghost use Rattle.rules.specs.Numbers.{lineRoom};
 ghost use Rattle.rules.specs.Replay.{tickLines, nextPlace};
 ghost use Rattle.rules.specs.Chunks.{callOf, isCall, isRunning, runs as runsOf, runFrom};
 ghost use Rattle.rules.specs.Laws.Buffers.{Written};
 ghost use Rattle.rules.specs.Invariant.{Sound};
-ghost use Rattle.steps.specs.Went.{CanPrint, planLinesOf};
+ghost use Rattle.calls.specs.Calls.{CanPrint, planLinesOf};
 use rules::budget::Controller;
 use rules::refusals::Count;
 use rules::refusals::Verdict;

@@ -11,21 +11,18 @@ use lib.ListN.{length}
 use borrow.Author.Tests.{lt-leb, leb-true, leb-false, ltb-true, ltb-false}
 use Rattle.rules.specs.Numbers.{lineRoom}
 use Rattle.rules.specs.Trace.{readAt}
-use Rattle.rules.specs.Replay.{nextPlace, readStep}
-use Rattle.rules.specs.Chunks.{Run, callOf, isCall, isRunning, runs, calling, still, calledBefore, runFrom}
+use Rattle.rules.specs.Replay.{nextPlace}
+use Rattle.rules.specs.Chunks.{callOf, isCall, calling, still, calledBefore, runFrom}
 use Rattle.rules.specs.Invariant.{Sound}
 use Rattle.rules.specs.Laws.Bools.{and-left, and-right}
 use Rattle.rules.specs.Laws.Buffers.{Written, Stands, restOf, putBack, stands-none, stands-kept, stands-rest, stands-fits, stands-more}
-use Rattle.rules.specs.Laws.Runs.{calling-keeps, call-steps, holding, run-goes}
+use Rattle.rules.specs.Laws.Runs.{calling-keeps, run-goes}
 use Rattle.rules.specs.declared.cost.Bio.{Bio}
 use Rattle.rules.specs.declared.budget.Controller.{Controller}
 use Rattle.rules.specs.declared.trace.Read.{Read}
 use Rattle.rules.specs.declared.replay.Call.{Call}
 use Rattle.rules.specs.declared.replay.Call.the-variants.{Bio as CallBio, Tick as CallTick, Plan as CallPlan, Vrate as CallVrate, None as NoCall}
-use Rattle.rules.specs.declared.replay.Phase.{Phase}
-use Rattle.rules.specs.declared.replay.Replay.{Replay}
-use Rattle.steps.specs.Went.{Does}
-use Rattle.steps.proofs.Answered.{Answered}
+use Rattle.calls.proofs.Answered.{Answered}
 
 -- ---- which are calls
 none-is-no-call : isCall NoCall ≡ false
@@ -148,19 +145,3 @@ module _ {trace o₀ : List ℕ} {most place : ℕ} {c₀ : Controller} {o : Lis
           sound = rw (answered .1) (calling-keeps call' (v .sound));
           same = v .same ∙ ap (calledBefore (v .bytes)) turn ∙ rw (here, ← e, ← n, ← (answered .1), less, append-assoc);
         }
-
--- ---- one call alone
-pub one-call : (trace : List ℕ) (at : ℕ) (s : Replay) (o₀ : List ℕ) {read : Read} {phase : Phase} {b : Bool} {count : ℕ} {o : List ℕ} {d : Controller}
-    → read ≡ readAt trace at → b ≡ runs phase read → b ≡ true → s .phase ≡ phase → lineRoom ≤ length o₀
-    → Written (runFrom 1 trace (length o₀) at (s .state) .bytes) count o₀ o → d ≡ runFrom 1 trace (length o₀) at (s .state) .state
-    → Does (readStep (readAt trace at) s) count (holding s d) o₀ o
-unfolding runs
-one-call trace at s o₀ {read} {phase} {b} e f t q l w i =
-    let on : runs (s .phase) (readAt trace at) ≡ true = rw (q, ← e) (sym f ∙ t) in
-    let is : isCall (callOf (readAt trace at)) ≡ true = and-right (isRunning (s .phase)) (isCall (callOf (readAt trace at))) on in
-    let one : runFrom 1 trace (length o₀) at (s .state)
-    ≡ calledBefore (calling (callOf (readAt trace at)) (s .state) .bytes)
-    (still (nextPlace (readAt trace at) at) (calling (callOf (readAt trace at)) (s .state) .state)) =
-    run-goes trace 1 (length o₀) at (s .state) (omega arith) is l
-    ∙ ap (calledBefore (calling (callOf (readAt trace at)) (s .state) .bytes)) (ends-spent trace _ _ _ 0 refl) in
-    rw (call-steps (readAt trace at) s on) (rw (one, append-nil) at w, ap (holding s) (i ∙ ap (λ (r : Run). r .state) one))

@@ -1,0 +1,21 @@
+-- What the lines of a call ask of the lent buffers, and which they are.
+-- Assumes nothing.
+use mathlib.Core.List.{List}
+use Prim.Native.Nat.{ℕ, _*_, _≤_}
+use Rattle.rules.specs.Numbers.{lineRoom}
+use Rattle.rules.specs.Replay.{refusalLine}
+use Rattle.rules.specs.Laws.Lines.{shareLinesOf}
+use Rattle.rules.specs.declared.refusals.Count.{Count}
+use Rattle.rules.specs.declared.refusals.Count.the-variants.{Released, Refused as Unticked}
+use Rattle.rules.specs.declared.refusals.Verdict.{Verdict}
+use Rattle.rules.specs.declared.refusals.Verdict.the-variants.{Accepted, Refused}
+
+-- the released ids stand in the lent places, and their lines in the room for any record's
+abbrev pub CanPrint : Count → ℕ → Type 0
+CanPrint (Released n) places = (n ≤ places) × (13 * n ≤ lineRoom)
+CanPrint (Unticked x) places = Unit {0}
+
+-- a plan's lines, by the active leaves and their shares alone
+unfoldable pub planLinesOf : Verdict → ℕ → List ℕ → List ℕ
+planLinesOf Accepted active shares = shareLinesOf active shares
+planLinesOf (Refused x) active shares = refusalLine x
