@@ -22,6 +22,7 @@ use Rattle.rules.specs.declared.budget.Controller.{Controller}
 use Rattle.rules.specs.declared.trace.Read.{Read}
 use Rattle.rules.specs.declared.replay.Call.{Call}
 use Rattle.rules.specs.declared.replay.Call.the-variants.{Bio as CallBio, Tick as CallTick, Plan as CallPlan, Vrate as CallVrate, None as NoCall}
+use Rattle.calls.specs.Calls.{RanAs}
 use Rattle.calls.proofs.Answered.{Answered}
 
 -- ---- which are calls
@@ -106,25 +107,23 @@ module _ {trace o₀ : List ℕ} {most place : ℕ} {c₀ : Controller} {o : Lis
   pub falls : (ltb 0 left && leb lineRoom (length o - count)) ≡ true → left - 1 < left
   falls e = omega (arith, goes e .0)
 
-  pub ran : runFrom left trace (length o₀ - count) at c ≡ still at c
-      → Written (runFrom most trace (length o₀) place c₀ .bytes) count o₀ o
-      × (at ≡ runFrom most trace (length o₀) place c₀ .place) × (c ≡ runFrom most trace (length o₀) place c₀ .state)
+  -- what the run is, if it ends here
+  abbrev Ran-here : Type 0
+  Ran-here = RanAs (runFrom most trace (length o₀) place c₀) (record { count = count; place = at; state = c }) o₀ o
+
+  pub ran : runFrom left trace (length o₀ - count) at c ≡ still at c → Ran-here
   ran e =
       let all : runFrom most trace (length o₀) place c₀ ≡ calledBefore (v .bytes) (still at c) = v .same ∙ ap (calledBefore (v .bytes)) e in
-      rw (all, append-nil) (v .front .front, refl, refl)
+      record { lines = rw (all, append-nil) (v .front .front); place = rw all; state = rw all }
 
-  pub ends : (ltb 0 left && leb lineRoom (length o - count)) ≡ false
-      → Written (runFrom most trace (length o₀) place c₀ .bytes) count o₀ o
-      × (at ≡ runFrom most trace (length o₀) place c₀ .place) × (c ≡ runFrom most trace (length o₀) place c₀ .state)
+  pub ends : (ltb 0 left && leb lineRoom (length o - count)) ≡ false → Ran-here
   ends e =
       ⊎-elim (λ (z : left ≡ 0). ran (ends-spent trace (length o₀ - count) at c left z))
       (λ (z : length o - count < lineRoom). ran (ends-full trace (length o₀ - count) at c left (rw (stands-kept (v .front)) at z)))
       (over left (length o - count) e)
 
   module _ {read : Read} {call : Call} (e : read ≡ readAt trace at) (k : call ≡ callOf read) where
-    pub no-call : call ≡ NoCall
-        → Written (runFrom most trace (length o₀) place c₀ .bytes) count o₀ o
-        × (at ≡ runFrom most trace (length o₀) place c₀ .place) × (c ≡ runFrom most trace (length o₀) place c₀ .state)
+    pub no-call : call ≡ NoCall → Ran-here
     no-call i =
         let here : callOf (readAt trace at) ≡ NoCall = ap callOf (sym e) ∙ sym k ∙ i in
         ran (ends-here trace (length o₀ - count) at c left (rw here none-is-no-call))

@@ -14,17 +14,19 @@ use Rattle.rules.specs.Replay.{isStopped, readStep, nextPlace, stepped}
 use Rattle.rules.specs.Chunks.{Run, callOf, isCall, isRunning, runs, runFrom, isEnd, wantsBytes, halts, pauseOf, nothing, printedBefore, partFrom, part, fed}
 use Rattle.rules.specs.Invariant.{Playing}
 use Rattle.rules.specs.Laws.Bools.{true-not-false, and-left, and-right, or-not-left, or-not-right}
-use Rattle.rules.specs.Laws.Buffers.{Written, Stands, restOf, putBack, stands-none, stands-kept, stands-rest, stands-fits, stands-more}
+use Rattle.rules.specs.Laws.Buffers.{Stands, restOf, putBack, stands-none, stands-kept, stands-rest, stands-fits, stands-more}
 use Rattle.rules.specs.Laws.Replays.{read-step-plays}
 use Rattle.rules.specs.Laws.Runs.{Continues, holding, call-moves, run-keeps, run-continues, run-moves}
 use Rattle.rules.specs.Laws.Chunks.{stepAt, nextAt, After, after-a-step, part-inside}
 use Rattle.rules.specs.Laws.Chunks.After.{goes-on, stops, ends}
+use Rattle.calls.specs.Calls.{RanAs}
+use Rattle.steps.specs.Fed.{Feeds}
 use Rattle.steps.specs.Went.{Does}
-use Rattle.rules.specs.declared.budget.Controller.{Controller}
 use Rattle.rules.specs.declared.trace.Read.{Read}
 use Rattle.rules.specs.declared.replay.Phase.{Phase}
 use Rattle.rules.specs.declared.replay.Replay.{Replay}
 use Rattle.rules.specs.declared.replay.Pause.{Pause}
+use Rattle.rules.specs.declared.replay.Ran.{Ran}
 
 -- ---- one turn of a part
 module _ (f : ℕ) (last : Bool) (trace : List ℕ) (room at : ℕ) (s : Replay) where
@@ -172,44 +174,44 @@ module _ {last : Bool} {trace : List ℕ} {place : ℕ} {s₀ : Replay} {o₀ o 
       continues : Continues last trace (v .turns) (length (restOf o count)) at s here
       continues = run-continues last trace n (v .turns) (length (restOf o count)) at s awake (v .enough (known .on))
 
-      module _ {r : ℕ} {ys : List ℕ} (kept : length ys ≡ length (restOf o count)) (w : Written (here .bytes) r (restOf o count) ys) where
-        pub run-turn : {at' : ℕ} {d : Controller} {read' : Read} → at' ≡ here .place → d ≡ here .state → read' ≡ readAt trace at'
-            → Feeding last trace place s₀ o₀ (putBack o count ys) at' (count + r) read' phase (holding s d)
-        run-turn {at'} {d} {read'} to state found = record {
+      module _ {r : Ran} {ys : List ℕ} (kept : length ys ≡ length (restOf o count)) (ran : RanAs here r (restOf o count) ys) where
+        pub run-turn : {read' : Read} → read' ≡ readAt trace (r .place)
+            → Feeding last trace place s₀ o₀ (putBack o count ys) (r .place) (count + r .count) read' phase (holding s (r .state))
+        run-turn found = record {
           turns = continues .turns;
           bytes = v .bytes ++ here .bytes;
-          front = stands-more (v .front) (here .bytes) ys r w (stands-fits (v .front) (here .bytes) ys r w kept);
+          front = stands-more (v .front) (here .bytes) ys (r .count) (ran .lines) (stands-fits (v .front) (here .bytes) ys (r .count) (ran .lines) kept);
           all =
               v .all ∙ ap (printedBefore (v .bytes)) (ap (λ (room : ℕ). partFrom (suc (v .turns)) last trace room at s) (sym (stands-rest (v .front))) ∙ continues .all)
-              ∙ rw (to, state, w .0, sub-add-eq, ← stands-rest (v .front), append-assoc);
-          enough = λ e. rw to (continues .enough);
+              ∙ rw (ran .place, ran .state, ran .lines .0, sub-add-eq, ← stands-rest (v .front), append-assoc);
+          enough = λ e. rw (ran .place) (continues .enough);
           plays = record {
             least = v .plays .least;
             most = v .plays .most;
             up = v .plays .up;
-            state = rw state (run-keeps trace n (length (restOf o count)) at (v .plays .state));
+            state = rw (ran .state) (run-keeps trace n (length (restOf o count)) at (v .plays .state));
           };
           found = found;
           same = v .same;
         }
 
-        pub run-falls : {at' : ℕ} → n ≡ length trace → at' ≡ here .place → left trace at' phase < left trace at phase
-        run-falls {at'} all to =
+        pub run-falls : n ≡ length trace → left trace (r .place) phase < left trace at phase
+        run-falls all =
             let first = call-moves trace at is in
             let m = run-moves trace n (length (restOf o count)) at (s .state) (omega (arith, first .0, first .1)) is asks in
-            rw (← v .same, known .on) (omega (arith, m .0, m .1))
+            rw (← v .same, known .on) (omega (arith, ran .place, m .0, m .1))
 
   module _ (halted : halts last read (length o - count) s ≡ true) where
     ended : part last trace (length o₀) place s₀ ≡ printedBefore (v .bytes) (nothing at s)
     ended = v .all ∙ ap (printedBefore (v .bytes)) (part-halts (v .turns) last trace (length o₀ - count) at s (told true halted))
 
-    pub done : (pause : Pause) → pause ≡ pauseOf last read s
-        → record { pause = pause; place = at; count = count; replay = s } ≡ fed last trace (length o₀) place s₀
+    pub feeds : (pause : Pause) → pause ≡ pauseOf last read s
+        → Feeds last trace place s₀ (record { pause = pause; place = at; count = count; replay = s }) o₀ o
     unfolding fed
-    done pause e = rw (ended, append-nil, e, v .found, v .front .front .0)
-
-    pub printed : Written (part last trace (length o₀) place s₀ .bytes) count o₀ o
-    printed = rw (ended, append-nil) (v .front .front)
-
-    pub inside : place ≤ length trace → at ≤ length trace
-    inside h = rw ended at (part-inside last trace (length o₀) place s₀ h)
+    feeds pause e = record {
+      answers = rw (ended, append-nil, e, v .found, v .front .front .0);
+      lines = rw (ended, append-nil) (v .front .front);
+      playing = v .plays;
+      fits = v .front .within;
+      inside = λ h. rw ended at (part-inside last trace (length o₀) place s₀ h);
+    }

@@ -20,14 +20,12 @@ use Rattle.rules.specs.Replay.{Step, within, stopsAt, silent, grown, inPhase, i
 use Rattle.rules.specs.Replay.{nodeStep, modelStep, startStep, recordStep, readStep, stepped, nextPlace}
 use Rattle.rules.specs.Chunks.{Run, callOf, isCall, isRunning, runs, calling, still, calledBefore, runFrom, stepping, steppedTo}
 use Rattle.rules.specs.Laws.Bools.{true-not-false, and-right}
-use Rattle.rules.specs.Laws.Buffers.{Written}
 use Rattle.rules.specs.Laws.Runs.{call-steps, holding, run-goes}
 use Rattle.rules.specs.declared.cost.Rates.{Rates}
 use Rattle.rules.specs.declared.cost.Model.{Model}
 use Rattle.rules.specs.declared.tree.Tree.{Tree}
 use Rattle.rules.specs.declared.tree.Fault.{Fault}
 use Rattle.rules.specs.declared.tree.Fault.the-variants.{Count}
-use Rattle.rules.specs.declared.budget.Controller.{Controller}
 use Rattle.rules.specs.declared.budget.Outcome.{Outcome}
 use Rattle.rules.specs.declared.refusals.Refusal.{Refusal}
 use Rattle.rules.specs.declared.refusals.Refusal.the-variants.{BadTree, WrongPhase}
@@ -45,8 +43,9 @@ use Rattle.rules.specs.declared.replay.Phase.the-variants.{Setup, Priced, Runni
 use Rattle.rules.specs.declared.replay.Replay.{Replay}
 use Rattle.rules.specs.declared.replay.Printed.{Printed}
 use Rattle.rules.specs.declared.replay.Printed.the-variants.{Bytes, Short}
-use Rattle.rules.specs.declared.replay.Stepped.{Stepped}
-use Rattle.steps.specs.Went.{Does}
+use Rattle.rules.specs.declared.replay.Ran.{Ran}
+use Rattle.calls.specs.Calls.{RanAs}
+use Rattle.steps.specs.Went.{Does, Steps}
 
 -- ---- a step that is known
 pub same-step : {a b : Step} {count : ℕ} {s : Replay} (o₀ : List ℕ) {o : List ℕ} → b ≡ a → Does a count s o₀ o → Does b count s o₀ o
@@ -171,30 +170,30 @@ pub no-call : (r : Record) → kindOf r < 4 → OneOf (3 ∷ 4 ∷ 5 ∷ 6 ∷ [
 no-call r early rest = omega (arith, kind-is r, late rest)
 
 -- ---- a call in its phase is run, alone
-pub one-call : (trace : List ℕ) (at : ℕ) (s : Replay) (o₀ : List ℕ) {read : Read} {phase : Phase} {b : Bool} {count : ℕ} {o : List ℕ} {d : Controller}
+pub one-call : (trace : List ℕ) (at : ℕ) (s : Replay) (o₀ : List ℕ) {read : Read} {phase : Phase} {b : Bool} {r : Ran} {o : List ℕ}
     → read ≡ readAt trace at → b ≡ runs phase read → b ≡ true → s .phase ≡ phase → lineRoom ≤ length o₀
-    → Written (runFrom 1 trace (length o₀) at (s .state) .bytes) count o₀ o → d ≡ runFrom 1 trace (length o₀) at (s .state) .state
-    → Does (readStep (readAt trace at) s) count (holding s d) o₀ o
+    → RanAs (runFrom 1 trace (length o₀) at (s .state)) r o₀ o
+    → Does (readStep (readAt trace at) s) (r .count) (holding s (r .state)) o₀ o
 unfolding runs runFrom
-one-call trace at s o₀ {read} {phase} {b} e f t q l w i =
+one-call trace at s o₀ e f t q l ran =
     let on : runs (s .phase) (readAt trace at) ≡ true = rw (q, ← e) (sym f ∙ t) in
     let is : isCall (callOf (readAt trace at)) ≡ true = and-right (isRunning (s .phase)) (isCall (callOf (readAt trace at))) on in
     let one : runFrom 1 trace (length o₀) at (s .state)
     ≡ calledBefore (calling (callOf (readAt trace at)) (s .state) .bytes)
     (still (nextPlace (readAt trace at) at) (calling (callOf (readAt trace at)) (s .state) .state)) =
     run-goes trace 1 (length o₀) at (s .state) (omega arith) is l in
-    rw (call-steps (readAt trace at) s on) (rw (one, append-nil) at w, ap (holding s) (i ∙ ap (λ (r : Run). r .state) one))
+    rw (call-steps (readAt trace at) s on) (rw (one, append-nil) at (ran .lines), ap (holding s) (ran .state ∙ ap (λ (r : Run). r .state) one))
 
 -- ---- one step in a lent buffer
 module _ (read : Read) (s : Replay) (lent : List ℕ) where
-  -- what a call over it answers and leaves in the buffer
   abbrev Stepping : Printed → Replay → List ℕ → Type 0
-  Stepping printed after o =
-      (_≡_ {A = Stepped} (record { printed = printed; replay = after }) (stepping read s lent)) × (o ≡ steppedTo read s lent)
+  Stepping printed after o = Steps read s (record { printed = printed; replay = after }) lent o
 
   pub steps-not : length lent < lineRoom → Stepping Short s lent
   unfolding stepping steppedTo
-  steps-not h = let e : ltb (length lent) lineRoom ≡ true = lt-ltb (length lent) lineRoom h in (rw e, rw e)
+  steps-not h =
+      let e : ltb (length lent) lineRoom ≡ true = lt-ltb (length lent) lineRoom h in
+      record { answers = rw e; leaves = rw e }
 
   module _ (room : lineRoom ≤ length lent) where
     fits : ltb (length lent) lineRoom ≡ false
@@ -202,9 +201,9 @@ module _ (read : Read) (s : Replay) (lent : List ℕ) where
 
     pub steps-no-more : isStopped (s .phase) ≡ true → Stepping (Bytes 0) s lent
     unfolding stepping steppedTo stepped
-    steps-no-more t = (rw (fits, t), rw (fits, t))
+    steps-no-more t = record { answers = rw (fits, t); leaves = rw (fits, t) }
 
     pub steps-on : isStopped (s .phase) ≡ false → {count : ℕ} {after : Replay} {o : List ℕ}
         → Does (readStep read s) count after lent o → Stepping (Bytes count) after o
     unfolding stepping steppedTo stepped
-    steps-on t d = (rw (fits, t, d .0 .0, d .1), rw (fits, t) (d .0 .1))
+    steps-on t d = record { answers = rw (fits, t, d .0 .0, d .1); leaves = rw (fits, t) (d .0 .1) }

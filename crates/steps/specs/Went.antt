@@ -4,8 +4,16 @@ use mathlib.Core.Path.{_≡_}
 use mathlib.Core.List.{List}
 use Prim.Native.Nat.{ℕ}
 use Rattle.rules.specs.Replay.{Step}
+use Rattle.rules.specs.Chunks.{stepping, steppedTo}
 use Rattle.rules.specs.Laws.Buffers.{Written}
+use Rattle.rules.specs.declared.trace.Read.{Read}
 use Rattle.rules.specs.declared.replay.Replay.{Replay}
+use Rattle.rules.specs.declared.replay.Stepped.{Stepped}
 
 abbrev pub Does : Step → ℕ → Replay → List ℕ → List ℕ → Type 0
 Does step count replay o₀ o = Written (step .bytes) count o₀ o × (replay ≡ step .replay)
+
+-- with a buffer of any length, that held o₀
+pub record Steps (read : Read) (s : Replay) (r : Stepped) (o₀ o : List ℕ) : Type 0 where
+  pub answers : r ≡ stepping read s o₀
+  pub leaves : o ≡ steppedTo read s o₀

@@ -5,9 +5,9 @@ ghost use Prim.Native.Nat.{_≤_, _<_};
 ghost use lib.ListN.{length};
 ghost use Rattle.rules.specs.Trace.{kindOf, readAt};
 ghost use Rattle.rules.specs.Replay.{stopsAt, inPhase, isStopped, recordStep, readStep};
-ghost use Rattle.rules.specs.Chunks.{runs, stepping, steppedTo};
+ghost use Rattle.rules.specs.Chunks.{runs};
 ghost use Rattle.rules.specs.Invariant.{Playing};
-ghost use Rattle.steps.specs.Went.{Does};
+ghost use Rattle.steps.specs.Went.{Does, Steps};
 use crate::setup;
 use calls::LINE_ROOM;
 use calls::run;
@@ -108,7 +108,7 @@ pub fn went(read: Read, s: Replay, out: &mut [u8]) -> After
 // One step, over what stands at a place of a trace: a replay that has stopped reads and prints no more.
 pub fn step(mut s: Replay, trace: &[u8], at: usize, out: &mut [u8]) -> Stepped
     requires { ⌜ Playing s ⌝ }
-    ensures { λ r. ⌜ (r ≡ stepping (readAt (now (trace .entry)) at) s (now (out .entry))) × (now (out .exit) ≡ steppedTo (readAt (now (trace .entry)) at) s (now (out .entry))) ⌝ }
+    ensures { λ r. ⌜ Steps (readAt (now (trace .entry)) at) s r (now (out .entry)) (now (out .exit)) ⌝ }
 {
     if out.len() < LINE_ROOM {
         return Stepped {

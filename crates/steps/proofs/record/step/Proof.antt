@@ -43,7 +43,7 @@ returns-3 c =
     let a = tested .before .before .before .before .args in
     steps-on (readAt (now (a .trace)) (a .at)) (a .s) (now (a .out)) (tested .before .if1 .left) (sym (tested .is-stopped .ensures) ∙ going .if2 .left)
     (one-call (now (a .trace)) (a .at) (a .s) (now (a .out)) (called .before .read-at .ensures) (called .runs .ensures) (ran .before .before .if3 .taken) refl
-    (tested .before .if1 .left) (ran .run .ensures .0) (ran .run .ensures .2))
+    (tested .before .if1 .left) (ran .run .ensures))
 
 went-requires : tie.Need-went-requires
 went-requires c κs =
