@@ -13,7 +13,7 @@ put-releases-requires : tie.Need-put-releases-requires
 put-releases-requires c κs =
     let start = c .before .before .before .before .before .before in
     let room = room-for (c .before .before .answer .given .1) (start .pre .0) in
-    (room .0, omega (arith, room .1, start .pre .1))
+    (omega (arith, room .0), omega (arith, room .1, start .pre .1))
 
 enum-known-answer-2 : tie.Need-enum-known-answer-2
 enum-known-answer-2 c = search needs
