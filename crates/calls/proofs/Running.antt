@@ -52,25 +52,25 @@ neither true = refl
 neither false = refl
 
 module _ (trace : List ℕ) (room at : ℕ) (c : Controller) where
-  pub ends-here : (left : ℕ) → isCall (callOf (readAt trace at)) ≡ false → runFrom left trace room at c ≡ still at c
+  ends-here : (left : ℕ) → isCall (callOf (readAt trace at)) ≡ false → runFrom left trace room at c ≡ still at c
   unfolding runFrom
   ends-here zero e = refl
   ends-here (suc more) e = rw e
 
-  pub ends-full : (left : ℕ) → room < lineRoom → runFrom left trace room at c ≡ still at c
+  ends-full : (left : ℕ) → room < lineRoom → runFrom left trace room at c ≡ still at c
   unfolding runFrom
   ends-full zero l = refl
   ends-full (suc more) l = rw (lt-leb lineRoom room l, neither (isCall (callOf (readAt trace at))))
 
-  pub ends-spent : (left : ℕ) → left ≡ 0 → runFrom left trace room at c ≡ still at c
+  ends-spent : (left : ℕ) → left ≡ 0 → runFrom left trace room at c ≡ still at c
   unfolding runFrom
   ends-spent zero e = refl
   ends-spent (suc more) e = absurd (omega arith)
 
 -- ---- the loop's test
 module _ (left room : ℕ) where
-  passes : (ltb 0 left && leb lineRoom room) ≡ true → (0 < left) × (lineRoom ≤ room)
-  passes e = (ltb-true 0 left (and-left (ltb 0 left) (leb lineRoom room) e), leb-true lineRoom room (and-right (ltb 0 left) (leb lineRoom room) e))
+  pub goes : (ltb 0 left && leb lineRoom room) ≡ true → (0 < left) × (lineRoom ≤ room)
+  goes e = (ltb-true 0 left (and-left (ltb 0 left) (leb lineRoom room) e), leb-true lineRoom room (and-right (ltb 0 left) (leb lineRoom room) e))
 
   over : (ltb 0 left && leb lineRoom room) ≡ false → (left ≡ 0) ⊎ (room < lineRoom)
   over e = go (ltb 0 left) refl e
@@ -101,17 +101,11 @@ module _ {trace o₀ : List ℕ} {most place : ℕ} {c₀ : Controller} {o : Lis
   pub asks : (k : ℕ) → k ≤ lineRoom → lineRoom ≤ length o - count → k ≤ length (restOf o count)
   asks k l h = rw (stands-rest (v .front)) (omega (arith, stands-kept (v .front)))
 
-  pub goes : (ltb 0 left && leb lineRoom (length o - count)) ≡ true → (0 < left) × (lineRoom ≤ length o - count)
-  goes e = passes left (length o - count) e
-
-  pub falls : (ltb 0 left && leb lineRoom (length o - count)) ≡ true → left - 1 < left
-  falls e = omega (arith, goes e .0)
-
   -- what the run is, if it ends here
   abbrev Ran-here : Type 0
   Ran-here = RanAs (runFrom most trace (length o₀) place c₀) (record { count = count; place = at; state = c }) o₀ o
 
-  pub ran : runFrom left trace (length o₀ - count) at c ≡ still at c → Ran-here
+  ran : runFrom left trace (length o₀ - count) at c ≡ still at c → Ran-here
   ran e =
       let all : runFrom most trace (length o₀) place c₀ ≡ calledBefore (v .bytes) (still at c) = v .same ∙ ap (calledBefore (v .bytes)) e in
       record { lines = rw (all, append-nil) (v .front .front); place = rw all; state = rw all }

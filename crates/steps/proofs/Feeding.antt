@@ -99,7 +99,7 @@ module _ {last : Bool} {trace : List ℕ} {place : ℕ} {s₀ : Replay} {o₀ o 
     known : Unhalted read (length o - count) s
     known = unhalted last read (length o - count) s goes
 
-    pub asks : lineRoom ≤ length (restOf o count)
+    asks : lineRoom ≤ length (restOf o count)
     asks = rw (stands-rest (v .front), ← stands-kept (v .front)) (known .wide)
 
     pub asks-little : 5 ≤ length (restOf o count)
