@@ -6,7 +6,7 @@ use mathlib.Core.List.{List, [], _++_, append-nil, append-assoc}
 use Prim.Native.Nat.{ℕ, zero, suc, _+_, _-_, _≤_, _<_}
 use native.Mathlib.Nat.{sub-zero, sub-add-eq}
 use native.Mathlib.Omega.{arith}
-use lib.ListN.{length, length-append, length-drop}
+use lib.ListN.{length}
 use borrow.Author.Tests.{ltb-false}
 use Rattle.rules.specs.Numbers.{lineRoom}
 use Rattle.rules.specs.Trace.{readAt}
@@ -14,17 +14,19 @@ use Rattle.rules.specs.Replay.{isStopped, readStep, nextPlace, stepped}
 use Rattle.rules.specs.Chunks.{Run, callOf, isCall, isRunning, runs, runFrom, isEnd, wantsBytes, halts, pauseOf, nothing, printedBefore, partFrom, part, fed}
 use Rattle.rules.specs.Invariant.{Playing}
 use Rattle.rules.specs.Laws.Bools.{true-not-false, and-left, and-right, or-not-left, or-not-right}
-use Rattle.rules.specs.Laws.Buffers.{Written, Stands, restOf, putBack, stands-none, stands-kept, stands-rest, stands-more}
+use Rattle.rules.specs.Laws.Buffers.{Stands, restOf, putBack, stands-none, stands-kept, stands-rest, stands-fits, stands-more}
 use Rattle.rules.specs.Laws.Replays.{read-step-plays}
 use Rattle.rules.specs.Laws.Runs.{Continues, holding, call-moves, run-keeps, run-continues, run-moves}
-use Rattle.rules.specs.Laws.Chunks.{stepAt, nextAt, After, after-a-step, part-inside}
+use Rattle.rules.specs.Laws.Chunks.{going-steps, stepAt, nextAt, After, after-a-step, part-inside}
 use Rattle.rules.specs.Laws.Chunks.After.{goes-on, stops, ends}
+use Rattle.calls.specs.Calls.{RanAs}
+use Rattle.steps.specs.Fed.{Feeds}
 use Rattle.steps.specs.Went.{Does}
-use Rattle.rules.specs.declared.budget.Controller.{Controller}
 use Rattle.rules.specs.declared.trace.Read.{Read}
 use Rattle.rules.specs.declared.replay.Phase.{Phase}
 use Rattle.rules.specs.declared.replay.Replay.{Replay}
 use Rattle.rules.specs.declared.replay.Pause.{Pause}
+use Rattle.rules.specs.declared.replay.Ran.{Ran}
 
 -- ---- one turn of a part
 module _ (f : ℕ) (last : Bool) (trace : List ℕ) (room at : ℕ) (s : Replay) where
@@ -40,14 +42,14 @@ module _ (f : ℕ) (last : Bool) (trace : List ℕ) (room at : ℕ) (s : Replay)
   part-goes e = rw e
 
 -- what is known of a replay that does not halt
-record Going (read : Read) (room : ℕ) (s : Replay) : Type 0 where
+record Unhalted (read : Read) (room : ℕ) (s : Replay) : Type 0 where
   on : isStopped (s .phase) ≡ false
   there : isEnd read ≡ false
   wide : lineRoom ≤ room
 
-going : (last : Bool) (read : Read) (room : ℕ) (s : Replay) → halts last read room s ≡ false → Going read room s
+unhalted : (last : Bool) (read : Read) (room : ℕ) (s : Replay) → halts last read room s ≡ false → Unhalted read room s
 unfolding halts
-going last read room s e =
+unhalted last read room s e =
     let here = or-not-right (wantsBytes last read) _ (or-not-right (isStopped (s .phase)) _ e) in
     record {
       on = or-not-left (isStopped (s .phase)) _ e;
@@ -94,18 +96,17 @@ module _ {last : Bool} {trace : List ℕ} {place : ℕ} {s₀ : Replay} {o₀ o 
   told b e = rw (← v .found, ← stands-kept (v .front)) e
 
   module _ (goes : halts last read (length o - count) s ≡ false) where
-    known : Going read (length o - count) s
-    known = going last read (length o - count) s goes
+    known : Unhalted read (length o - count) s
+    known = unhalted last read (length o - count) s goes
 
-    pub asks : lineRoom ≤ length (restOf o count)
+    asks : lineRoom ≤ length (restOf o count)
     asks = rw (stands-rest (v .front), ← stands-kept (v .front)) (known .wide)
 
     pub asks-little : 5 ≤ length (restOf o count)
     asks-little = omega (arith, asks)
 
     step-is : stepped (readAt trace at) s ≡ readStep read s
-    unfolding stepped
-    step-is = rw (← v .found, known .on)
+    step-is = rw (← v .found) (going-steps read s (known .on))
 
     moves : isStopped (readStep read s .replay .phase) ≡ false → (at < nextPlace read at) × (nextPlace read at ≤ length trace)
     unfolding isEnd
@@ -127,11 +128,6 @@ module _ {last : Bool} {trace : List ℕ} {place : ℕ} {s₀ : Replay} {o₀ o 
 
     module _ {r : ℕ} {after : Replay} {ys : List ℕ} (kept : length ys ≡ length (restOf o count))
         (does : Does (readStep read s) r after (restOf o count) ys) where
-      pub fits : count + r ≤ length o₀
-      fits =
-          let long = rw (does .0 .1, length-append, length-drop, stands-rest (v .front)) at kept in
-          omega (arith, does .0 .0, v .front .within)
-
       pub turn : {at' : ℕ} {read' : Read} → at' ≡ nextPlace read at → read' ≡ readAt trace at'
           → Feeding last trace place s₀ o₀ (putBack o count ys) at' (count + r) read' (after .phase) after
       turn {at'} {read'} to found = go (v .turns) refl (v .enough (known .on))
@@ -142,7 +138,7 @@ module _ {last : Bool} {trace : List ℕ} {place : ℕ} {s₀ : Replay} {o₀ o 
           go (suc g) e few = record {
             turns = g;
             bytes = v .bytes ++ readStep read s .bytes;
-            front = stands-more (v .front) (readStep read s .bytes) ys r (does .0) fits;
+            front = stands-more (v .front) (readStep read s .bytes) ys r (does .0) (stands-fits (v .front) (readStep read s .bytes) ys r (does .0) kept);
             all = rw (to, does .1, does .0 .0) (more g e);
             enough = λ on. let m = moves (rw (does .1) at on) in (omega (arith, m .0, m .1, few .1), omega (arith, m .0, m .1, few .1));
             plays = rw (does .1) (read-step-plays read s (v .plays));
@@ -177,50 +173,44 @@ module _ {last : Bool} {trace : List ℕ} {place : ℕ} {s₀ : Replay} {o₀ o 
       continues : Continues last trace (v .turns) (length (restOf o count)) at s here
       continues = run-continues last trace n (v .turns) (length (restOf o count)) at s awake (v .enough (known .on))
 
-      module _ {r : ℕ} {ys : List ℕ} (kept : length ys ≡ length (restOf o count)) (w : Written (here .bytes) r (restOf o count) ys) where
-        pub run-fits : count + r ≤ length o₀
-        run-fits =
-            let long : length (here .bytes) + (length (restOf o count) - length (here .bytes)) ≡ length (restOf o count) =
-            rw (length-append, length-drop) at (ap length (sym (w .1)) ∙ kept) in
-            omega (arith, long, w .0, stands-rest (v .front), v .front .within)
-
-        pub run-turn : {at' : ℕ} {d : Controller} {read' : Read} → at' ≡ here .place → d ≡ here .state → read' ≡ readAt trace at'
-            → Feeding last trace place s₀ o₀ (putBack o count ys) at' (count + r) read' phase (holding s d)
-        run-turn {at'} {d} {read'} to state found = record {
+      module _ {r : Ran} {ys : List ℕ} (kept : length ys ≡ length (restOf o count)) (ran : RanAs here r (restOf o count) ys) where
+        pub run-turn : {read' : Read} → read' ≡ readAt trace (r .place)
+            → Feeding last trace place s₀ o₀ (putBack o count ys) (r .place) (count + r .count) read' phase (holding s (r .state))
+        run-turn found = record {
           turns = continues .turns;
           bytes = v .bytes ++ here .bytes;
-          front = stands-more (v .front) (here .bytes) ys r w run-fits;
+          front = stands-more (v .front) (here .bytes) ys (r .count) (ran .lines) (stands-fits (v .front) (here .bytes) ys (r .count) (ran .lines) kept);
           all =
               v .all ∙ ap (printedBefore (v .bytes)) (ap (λ (room : ℕ). partFrom (suc (v .turns)) last trace room at s) (sym (stands-rest (v .front))) ∙ continues .all)
-              ∙ rw (to, state, w .0, sub-add-eq, ← stands-rest (v .front), append-assoc);
-          enough = λ e. rw to (continues .enough);
+              ∙ rw (ran .place, ran .state, ran .lines .0, sub-add-eq, ← stands-rest (v .front), append-assoc);
+          enough = λ e. rw (ran .place) (continues .enough);
           plays = record {
             least = v .plays .least;
             most = v .plays .most;
             up = v .plays .up;
-            state = rw state (run-keeps trace n (length (restOf o count)) at (v .plays .state));
+            state = rw (ran .state) (run-keeps trace n (length (restOf o count)) at (v .plays .state));
           };
           found = found;
           same = v .same;
         }
 
-        pub run-falls : {at' : ℕ} → n ≡ length trace → at' ≡ here .place → left trace at' phase < left trace at phase
-        run-falls {at'} all to =
+        pub run-falls : n ≡ length trace → left trace (r .place) phase < left trace at phase
+        run-falls all =
             let first = call-moves trace at is in
             let m = run-moves trace n (length (restOf o count)) at (s .state) (omega (arith, first .0, first .1)) is asks in
-            rw (← v .same, known .on) (omega (arith, m .0, m .1))
+            rw (← v .same, known .on) (omega (arith, ran .place, m .0, m .1))
 
   module _ (halted : halts last read (length o - count) s ≡ true) where
     ended : part last trace (length o₀) place s₀ ≡ printedBefore (v .bytes) (nothing at s)
     ended = v .all ∙ ap (printedBefore (v .bytes)) (part-halts (v .turns) last trace (length o₀ - count) at s (told true halted))
 
-    pub done : (pause : Pause) → pause ≡ pauseOf last read s
-        → record { pause = pause; place = at; count = count; replay = s } ≡ fed last trace (length o₀) place s₀
+    pub feeds : (pause : Pause) → pause ≡ pauseOf last read s
+        → Feeds last trace place s₀ (record { pause = pause; place = at; count = count; replay = s }) o₀ o
     unfolding fed
-    done pause e = rw (ended, append-nil, e, v .found, v .front .front .0)
-
-    pub printed : Written (part last trace (length o₀) place s₀ .bytes) count o₀ o
-    printed = rw (ended, append-nil) (v .front .front)
-
-    pub inside : place ≤ length trace → at ≤ length trace
-    inside h = rw ended at (part-inside last trace (length o₀) place s₀ h)
+    feeds pause e = record {
+      answers = rw (ended, append-nil, e, v .found, v .front .front .0);
+      lines = rw (ended, append-nil) (v .front .front);
+      playing = v .plays;
+      fits = v .front .within;
+      inside = λ h. rw ended at (part-inside last trace (length o₀) place s₀ h);
+    }

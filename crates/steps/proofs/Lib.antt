@@ -1,4 +1,2 @@
-pub mod Answered
 pub mod Feeding
 pub mod Records
-pub mod Running

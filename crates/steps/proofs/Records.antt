@@ -2,23 +2,26 @@
 -- Assumes nothing.
 use mathlib.Core.Path.{_≡_, refl, sym, ap, _∙_}
 use mathlib.Core.Bool.{Bool, true, false, _&&_}
-use mathlib.Core.List.{List}
-use Prim.Native.Nat.{ℕ, _+_, _≤_, _<_}
+use mathlib.Core.List.{List, [], _∷_, append-nil}
+use mathlib.Core.Logic.{inl, inr}
+use Prim.Native.Nat.{ℕ, suc, _+_, _≤_, _<_}
 use native.Mathlib.Omega.{arith}
-use lib.Dec.{leb, ltb}
+use lib.Dec.{ltb}
 use lib.ListN.{length}
+use types.Run.{OneOf}
+use denote.Enum.Declared.{tagOf}
 use borrow.Author.Tests.{lt-leb, lt-ltb, le-ltb}
 use Rattle.rules.specs.Numbers.{nodesMost, lineRoom}
 use Rattle.rules.specs.Tree.{newestFault}
 use Rattle.rules.specs.Refusals.{isFault, firstOf, nodeChecks, rateChecks}
 use Rattle.rules.specs.Entries.{pricing, pricingBy, started}
-use Rattle.rules.specs.Trace.{kindOf}
+use Rattle.rules.specs.Trace.{kindOf, readAt}
 use Rattle.rules.specs.Replay.{Step, within, stopsAt, silent, grown, inPhase, isStopped}
-use Rattle.rules.specs.Replay.{nodeStep, modelStep, startStep, recordStep, readStep, stepped}
-use Rattle.rules.specs.Chunks.{callOf, isCall, isRunning, runs, stepping, steppedTo}
-use Rattle.rules.specs.Laws.Bools.{true-not-false}
+use Rattle.rules.specs.Replay.{nodeStep, modelStep, startStep, recordStep, readStep, stepped, nextPlace}
+use Rattle.rules.specs.Chunks.{Run, callOf, isCall, isRunning, runs, calling, still, calledBefore, runFrom, stepping, steppedTo}
+use Rattle.rules.specs.Laws.Bools.{never, true-not-false, and-right}
+use Rattle.rules.specs.Laws.Runs.{call-steps, holding, run-goes}
 use Rattle.rules.specs.declared.cost.Rates.{Rates}
-use Rattle.rules.specs.declared.cost.Bio.{Bio}
 use Rattle.rules.specs.declared.cost.Model.{Model}
 use Rattle.rules.specs.declared.tree.Tree.{Tree}
 use Rattle.rules.specs.declared.tree.Fault.{Fault}
@@ -31,6 +34,7 @@ use Rattle.rules.specs.declared.refusals.Verdict.the-variants.{Accepted, Refuse
 use Rattle.rules.specs.declared.refusals.Pricing.{Pricing}
 use Rattle.rules.specs.declared.refusals.Pricing.the-variants.{Priced as PricedAs, Refused as Unpriced}
 use Rattle.rules.specs.declared.trace.Record.{Record}
+use Rattle.rules.proofs.trace.Record.{the-type}
 use Rattle.rules.specs.declared.trace.Record.the-variants.{Node, Model as ModelOf, Start, Bio as BioOf, Tick, Plan, Vrate}
 use Rattle.rules.specs.declared.trace.Read.{Read}
 use Rattle.rules.specs.declared.trace.Read.the-variants.{Found, End, Refused as Unread}
@@ -39,8 +43,9 @@ use Rattle.rules.specs.declared.replay.Phase.the-variants.{Setup, Priced, Runni
 use Rattle.rules.specs.declared.replay.Replay.{Replay}
 use Rattle.rules.specs.declared.replay.Printed.{Printed}
 use Rattle.rules.specs.declared.replay.Printed.the-variants.{Bytes, Short}
-use Rattle.rules.specs.declared.replay.Stepped.{Stepped}
-use Rattle.steps.specs.Went.{Does}
+use Rattle.rules.specs.declared.replay.Ran.{Ran}
+use Rattle.calls.specs.Calls.{RanAs}
+use Rattle.steps.specs.Went.{Does, Steps}
 
 -- ---- a step that is known
 pub same-step : {a b : Step} {count : ℕ} {s : Replay} (o₀ : List ℕ) {o : List ℕ} → b ≡ a → Does a count s o₀ o → Does b count s o₀ o
@@ -56,7 +61,7 @@ module _ (r : Rates) (s : Replay) {answer : Pricing} (e : answer ≡ pricing r) 
   model-refused {x} a = go (firstOf (rateChecks r)) e
     where
       go : (v : Verdict) → answer ≡ pricingBy v r → modelStep v r s ≡ stopsAt x s
-      go Accepted q = let z : _≡_ {A = ℕ} 0 1 = cc in absurd (omega arith)
+      go Accepted q = never (cc)
       go (Refused y) q = let same : y ≡ x = cc in ap (λ (k : Refusal). stopsAt k s) same
 
   pub model-accepted : {m : Model} → answer ≡ PricedAs m → recordStep (ModelOf r) s ≡ silent (within Priced (s .tree) r (s .state))
@@ -65,7 +70,7 @@ module _ (r : Rates) (s : Replay) {answer : Pricing} (e : answer ≡ pricing r) 
     where
       go : (v : Verdict) → answer ≡ pricingBy v r → modelStep v r s ≡ silent (within Priced (s .tree) r (s .state))
       go Accepted q = refl
-      go (Refused y) q = let z : _≡_ {A = ℕ} 0 1 = cc in absurd (omega arith)
+      go (Refused y) q = never (cc)
 
 -- ---- start
 module _ (time : ℕ) (s : Replay) {begun : Outcome} (e : begun ≡ started (s .tree) (s .rates) time) where
@@ -131,46 +136,64 @@ never-before-start kind a b Running e h = true-not-false refl h
 never-before-start kind a b Stopped e h = true-not-false e refl
 
 pub setup-only : {read : Read} {r : Record} {next : ℕ} (p : Phase) {b : Bool} → read ≡ Found r next → b ≡ inPhase p (kindOf r) → b ≡ true
-    → runs p read ≡ false → leb 4 (kindOf r) ≡ false
+    → runs p read ≡ false → kindOf r < 4
 unfolding runs isCall callOf kindOf inPhase
 setup-only {read} {r} {next} p f e t h = go r (rw f at h) (sym e ∙ t)
   where
-    go : (r : Record) → runs p (Found r next) ≡ false → inPhase p (kindOf r) ≡ true → leb 4 (kindOf r) ≡ false
-    go (Node q w) h e = refl
-    go (ModelOf q) h e = refl
-    go (Start time) h e = refl
+    go : (r : Record) → runs p (Found r next) ≡ false → inPhase p (kindOf r) ≡ true → kindOf r < 4
+    go (Node q w) h e = omega arith
+    go (ModelOf q) h e = omega arith
+    go (Start time) h e = omega arith
     go (BioOf b) h e = absurd (never-before-start 4 refl refl p e h)
     go (Tick time) h e = absurd (never-before-start 5 refl refl p e h)
     go Plan h e = absurd (never-before-start 6 refl refl p e h)
     go (Vrate v) h e = absurd (never-before-start 7 refl refl p e h)
 
-module _ {r : Record} (early : leb 4 (kindOf r) ≡ false) where
-  pub no-bio : (b : Bio) → r ≡ BioOf b → ⊥
-  unfolding kindOf
-  no-bio b e = true-not-false refl (rw e at early)
+-- the arm for the rest has the calls' variants, from the fourth on
+kind-is : (r : Record) → kindOf r ≡ suc (tagOf the-type r)
+unfolding kindOf
+kind-is (Node p w) = refl
+kind-is (ModelOf q) = refl
+kind-is (Start time) = refl
+kind-is (BioOf b) = refl
+kind-is (Tick time) = refl
+kind-is Plan = refl
+kind-is (Vrate v) = refl
 
-  pub no-tick : (time : ℕ) → r ≡ Tick time → ⊥
-  unfolding kindOf
-  no-tick time e = true-not-false refl (rw e at early)
+late : {k : ℕ} → OneOf (3 ∷ 4 ∷ 5 ∷ 6 ∷ []) k → 3 ≤ k
+late (inl e) = omega arith
+late (inr (inl e)) = omega arith
+late (inr (inr (inl e))) = omega arith
+late (inr (inr (inr e))) = omega arith
 
-  pub no-plan : r ≡ Plan → ⊥
-  unfolding kindOf
-  no-plan e = true-not-false refl (rw e at early)
+pub no-call : (r : Record) → kindOf r < 4 → OneOf (3 ∷ 4 ∷ 5 ∷ 6 ∷ []) (tagOf the-type r) → ⊥
+no-call r early rest = omega (arith, kind-is r, late rest)
 
-  pub no-vrate : (v : ℕ) → r ≡ Vrate v → ⊥
-  unfolding kindOf
-  no-vrate v e = true-not-false refl (rw e at early)
+-- ---- a call in its phase is run, alone
+pub one-call : (trace : List ℕ) (at : ℕ) (s : Replay) (o₀ : List ℕ) {read : Read} {phase : Phase} {b : Bool} {r : Ran} {o : List ℕ}
+    → read ≡ readAt trace at → b ≡ runs phase read → b ≡ true → s .phase ≡ phase → lineRoom ≤ length o₀
+    → RanAs (runFrom 1 trace (length o₀) at (s .state)) r o₀ o
+    → Does (readStep (readAt trace at) s) (r .count) (holding s (r .state)) o₀ o
+unfolding runs runFrom
+one-call trace at s o₀ e f t q l ran =
+    let on : runs (s .phase) (readAt trace at) ≡ true = rw (q, ← e) (sym f ∙ t) in
+    let is : isCall (callOf (readAt trace at)) ≡ true = and-right (isRunning (s .phase)) (isCall (callOf (readAt trace at))) on in
+    let one : runFrom 1 trace (length o₀) at (s .state)
+    ≡ calledBefore (calling (callOf (readAt trace at)) (s .state) .bytes)
+    (still (nextPlace (readAt trace at) at) (calling (callOf (readAt trace at)) (s .state) .state)) =
+    run-goes trace 1 (length o₀) at (s .state) (omega arith) is l in
+    rw (call-steps (readAt trace at) s on) (rw (one, append-nil) at (ran .lines), ap (holding s) (ran .state ∙ ap (λ (r : Run). r .state) one))
 
 -- ---- one step in a lent buffer
 module _ (read : Read) (s : Replay) (lent : List ℕ) where
-  -- what a call over it answers and leaves in the buffer
   abbrev Stepping : Printed → Replay → List ℕ → Type 0
-  Stepping printed after o =
-      (_≡_ {A = Stepped} (record { printed = printed; replay = after }) (stepping read s lent)) × (o ≡ steppedTo read s lent)
+  Stepping printed after o = Steps read s (record { printed = printed; replay = after }) lent o
 
   pub steps-not : length lent < lineRoom → Stepping Short s lent
   unfolding stepping steppedTo
-  steps-not h = let e : ltb (length lent) lineRoom ≡ true = lt-ltb (length lent) lineRoom h in (rw e, rw e)
+  steps-not h =
+      let e : ltb (length lent) lineRoom ≡ true = lt-ltb (length lent) lineRoom h in
+      record { answers = rw e; leaves = rw e }
 
   module _ (room : lineRoom ≤ length lent) where
     fits : ltb (length lent) lineRoom ≡ false
@@ -178,9 +201,9 @@ module _ (read : Read) (s : Replay) (lent : List ℕ) where
 
     pub steps-no-more : isStopped (s .phase) ≡ true → Stepping (Bytes 0) s lent
     unfolding stepping steppedTo stepped
-    steps-no-more t = (rw (fits, t), rw (fits, t))
+    steps-no-more t = record { answers = rw (fits, t); leaves = rw (fits, t) }
 
     pub steps-on : isStopped (s .phase) ≡ false → {count : ℕ} {after : Replay} {o : List ℕ}
         → Does (readStep read s) count after lent o → Stepping (Bytes count) after o
     unfolding stepping steppedTo stepped
-    steps-on t d = (rw (fits, t, d .0 .0, d .1), rw (fits, t) (d .0 .1))
+    steps-on t d = record { answers = rw (fits, t, d .0 .0, d .1); leaves = rw (fits, t) (d .0 .1) }

@@ -2,18 +2,18 @@
 // lines. What is cut at its end may be whole once more bytes come, so 17 is given at the trace's true end only.
 ghost use mathlib.Core.Path.{_≡_};
 ghost use mathlib.Core.List.{_++_};
-ghost use Prim.Native.Nat.{ℕ, _-_, _≤_};
+ghost use Prim.Native.Nat.{_-_, _≤_};
 ghost use lib.ListN.{length, take, drop};
-ghost use Rattle.rules.specs.Replay.{beginning as beginningOf, replay};
-ghost use Rattle.rules.specs.Chunks.{isCut, isEnd, wantsBytes, halts as haltsOf, pauseOf, part, fed, whole as wholeOf, wholePart};
-ghost use Rattle.rules.specs.Laws.Buffers.{Written};
+ghost use Rattle.rules.specs.Replay.{beginning as beginningOf};
+ghost use Rattle.rules.specs.Chunks.{isCut, isEnd, wantsBytes, halts as haltsOf, pauseOf};
 ghost use Rattle.rules.specs.Invariant.{Playing};
-use crate::calls::LINE_ROOM;
-use crate::calls::next_place;
-use crate::calls::run;
-use crate::calls::runs;
+ghost use Rattle.steps.specs.Fed.{Feeds, Prints};
 use crate::record::is_stopped;
 use crate::record::went;
+use calls::LINE_ROOM;
+use calls::next_place;
+use calls::run;
+use calls::runs;
 use rules::cost::Rates;
 use rules::replay::Fed;
 use rules::replay::Pause;
@@ -113,7 +113,7 @@ fn pause_of(last: bool, read: Read, phase: Phase) -> Pause
 // For as long as the next record is whole and any record's lines have room: calls by the run, other records one a turn.
 pub fn feed(mut s: Replay, trace: &[u8], place: usize, last: bool, out: &mut [u8]) -> Fed
     requires { ⌜ Playing s ⌝ }
-    ensures { λ r. ⌜ (r ≡ fed last (now (trace .entry)) (length (now (out .entry))) place s) × Written (part last (now (trace .entry)) (length (now (out .entry))) place s .bytes) (r .count) (now (out .entry)) (now (out .exit)) × Playing (r .replay) × (r .count ≤ length (now (out .entry))) × (place ≤ length (now (trace .entry)) → r .place ≤ length (now (trace .entry))) ⌝ }
+    ensures { λ r. ⌜ Feeds last (now (trace .entry)) place s r (now (out .entry)) (now (out .exit)) ⌝ }
 {
     let mut at = place;
     let mut count: usize = 0;
@@ -147,7 +147,7 @@ pub fn feed(mut s: Replay, trace: &[u8], place: usize, last: bool, out: &mut [u8
 
 // A whole lent trace.
 pub fn whole(trace: &[u8], out: &mut [u8]) -> Printed
-    ensures { λ r. ⌜ (r ≡ wholeOf (now (trace .entry)) (length (now (out .entry)))) × (now (out .exit) ≡ wholePart (now (trace .entry)) (length (now (out .entry))) .bytes ++ drop (length (wholePart (now (trace .entry)) (length (now (out .entry))) .bytes)) (now (out .entry))) × ((n : ℕ) → r ≡ Printed.Bytes n → Written (replay (now (trace .entry))) n (now (out .entry)) (now (out .exit))) ⌝ }
+    ensures { λ r. ⌜ Prints (now (trace .entry)) r (now (out .entry)) (now (out .exit)) ⌝ }
 {
     let fed = feed(beginning(), trace, 0, true, out);
     let pause = fed.pause;

@@ -1,18 +1,17 @@
 // One record: 16 and 17 are found by the reader, 18 is decided here, and the record's own refusals where it is carried out.
 ghost use mathlib.Core.Path.{_≡_};
 ghost use mathlib.Core.Bool.{false};
-ghost use Prim.Native.Nat.{_≤_};
+ghost use Prim.Native.Nat.{_≤_, _<_};
 ghost use lib.ListN.{length};
-ghost use lib.Dec.{leb};
 ghost use Rattle.rules.specs.Trace.{kindOf, readAt};
 ghost use Rattle.rules.specs.Replay.{stopsAt, inPhase, isStopped, recordStep, readStep};
-ghost use Rattle.rules.specs.Chunks.{runs, stepping, steppedTo};
+ghost use Rattle.rules.specs.Chunks.{runs};
 ghost use Rattle.rules.specs.Invariant.{Playing};
-ghost use Rattle.steps.specs.Went.{Does};
-use crate::calls::LINE_ROOM;
-use crate::calls::run;
-use crate::calls::runs;
+ghost use Rattle.steps.specs.Went.{Does, Steps};
 use crate::setup;
+use calls::LINE_ROOM;
+use calls::run;
+use calls::runs;
 use rules::refusals::Refusal;
 use rules::replay::Phase;
 use rules::replay::Printed;
@@ -60,19 +59,16 @@ fn in_phase(phase: Phase, r: Record) -> bool
     }
 }
 
-// A record of setup in its phase. The others are calls, and none of them is in its phase before start.
+// A record of setup in its phase. The others are calls, and none of them comes here: in its phase a call is run.
 fn carried(r: Record, s: Replay, out: &mut [u8]) -> After
-    requires { ⌜ Playing s × (5 ≤ length (now out)) × (leb 4 (kindOf r) ≡ false) ⌝ }
+    requires { ⌜ Playing s × (5 ≤ length (now out)) × (kindOf r < 4) ⌝ }
     ensures { λ w. ⌜ Does (recordStep r s) (w .count) (w .replay) (now (out .entry)) (now (out .exit)) ⌝ }
 {
     match r {
         Record::Node(parent, weight) => setup::node(parent, weight, s, out),
         Record::Model(rates) => setup::model(rates, s, out),
         Record::Start(time) => setup::start(time, s, out),
-        Record::Bio(_) => stopped(Refusal::WrongPhase, s, out),
-        Record::Tick(_) => stopped(Refusal::WrongPhase, s, out),
-        Record::Plan => stopped(Refusal::WrongPhase, s, out),
-        Record::Vrate(_) => stopped(Refusal::WrongPhase, s, out),
+        _ => stopped(Refusal::WrongPhase, s, out),
     }
 }
 
@@ -112,7 +108,7 @@ pub fn went(read: Read, s: Replay, out: &mut [u8]) -> After
 // One step, over what stands at a place of a trace: a replay that has stopped reads and prints no more.
 pub fn step(mut s: Replay, trace: &[u8], at: usize, out: &mut [u8]) -> Stepped
     requires { ⌜ Playing s ⌝ }
-    ensures { λ r. ⌜ (r ≡ stepping (readAt (now (trace .entry)) at) s (now (out .entry))) × (now (out .exit) ≡ steppedTo (readAt (now (trace .entry)) at) s (now (out .entry))) ⌝ }
+    ensures { λ r. ⌜ Steps (readAt (now (trace .entry)) at) s r (now (out .entry)) (now (out .exit)) ⌝ }
 {
     if out.len() < LINE_ROOM {
         return Stepped {

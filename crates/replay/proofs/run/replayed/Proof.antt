@@ -21,13 +21,12 @@ same-length c = search needs
 returns : tie.Need-returns
 returns c =
     let f = c .before .before .feed .ensures in
-    let size = length-take-le _ _ (c .before .before .before .before .before .before .before .before .pre .1) in
     record {
-      feeds = f .0;
-      lines = f .1;
-      playing = f .2;
-      fits = omega (arith, f .3);
-      inside = le-trans (f .4 zero-le) (le-of-eq size);
+      feeds = f .answers;
+      lines = f .lines;
+      playing = f .playing;
+      fits = omega (arith, f .fits);
+      inside = le-trans (f .inside zero-le) (le-of-eq (length-take-le _ _ (c .before .before .before .before .before .before .before .before .pre .1)));
     }
 
 pub replayed-spec : {M : Type 1} → statement M

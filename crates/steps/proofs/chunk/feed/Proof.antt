@@ -8,9 +8,10 @@ use native.Mathlib.Omega.{arith}
 use borrow.Author.Needs.{needs}
 use borrow.Author.Tests.{not-true, not-false}
 use denote.Ref.{now}
-use Rattle.rules.specs.Chunks.{halts}
-use Rattle.rules.specs.Laws.Buffers.{stands-left, stands-kept}
-use Rattle.steps.proofs.Feeding.{Feeding, left, begun, asks-little, fits, turn, falls, run-fits, run-turn, run-falls, done, printed, inside}
+use Rattle.rules.specs.Replay.{readStep}
+use Rattle.rules.specs.Chunks.{halts, runFrom}
+use Rattle.rules.specs.Laws.Buffers.{stands-left, stands-kept, stands-fits}
+use Rattle.steps.proofs.Feeding.{Feeding, left, begun, asks-little, turn, falls, run-turn, run-falls, feeds}
 use Rattle.steps.proofs.Records.{no-run}
 use Rattle.steps.proofs.chunk.feed.Statement.{statement}
 use Rattle.steps.proofs.chunk.feed.Tie as tie
@@ -68,11 +69,9 @@ run-requires c κs = c .before .before .before .before .before .loop .inv .plays
 add-count : tie.Need-add-count Inv-loop μ-loop
 add-count c =
     let ran = c .before .before .before in
-    let called = ran .before .before .before in
-    let tested = called .before in
-    let head = tested .before .before in
+    let head = ran .before .before .before .before .before .before in
     let start = head .before .before .before .before in
-    let within = run-fits (head .loop .inv) (goes-at tested) (called .runs .ensures) (ran .before .before .if2 .taken) _ (ran .run .kept .1 .1 .1 .1 .0) (ran .run .ensures .0) in
+    let within = stands-fits (head .loop .inv .front) (runFrom _ _ _ _ _ .bytes) _ _ (ran .run .ensures .lines) (ran .run .kept .1 .1 .1 .1 .0) in
     omega (arith, within, start .good .1 .1 .1 .1 .0 .0)
 
 read-at-requires-2 : tie.Need-read-at-requires-2 Inv-loop μ-loop
@@ -83,16 +82,16 @@ loop-less c =
     let ran = c .before .before .before .before .before in
     let called = ran .before .before .before in
     let tested = called .before in
-    run-falls (tested .before .before .loop .inv) (goes-at tested) (called .runs .ensures) (ran .before .before .if2 .taken) _ (ran .run .kept .1 .1 .1 .1 .0) (ran .run .ensures .0)
-    refl (ran .run .ensures .1)
+    run-falls (tested .before .before .loop .inv) (goes-at tested) (called .runs .ensures) (ran .before .before .if2 .taken) _ (ran .run .kept .1 .1 .1 .1 .0) (ran .run .ensures)
+    refl
 
 loop-again : tie.Need-loop-again Inv-loop μ-loop
 loop-again c =
     let ran = c .before .before .before .before .before in
     let called = ran .before .before .before in
     let tested = called .before in
-    run-turn (tested .before .before .loop .inv) (goes-at tested) (called .runs .ensures) (ran .before .before .if2 .taken) _ (ran .run .kept .1 .1 .1 .1 .0) (ran .run .ensures .0)
-    (ran .run .ensures .1) (ran .run .ensures .2) (c .read-at2 .ensures)
+    run-turn (tested .before .before .loop .inv) (goes-at tested) (called .runs .ensures) (ran .before .before .if2 .taken) _ (ran .run .kept .1 .1 .1 .1 .0) (ran .run .ensures)
+    (c .read-at2 .ensures)
 
 sub-went : tie.Need-sub-went Inv-loop μ-loop
 sub-went c = stands-left (c .before .before .before .before .loop .inv .front)
@@ -114,10 +113,9 @@ went-requires c κs =
 add-count-2 : tie.Need-add-count-2 Inv-loop μ-loop
 add-count-2 c =
     let gone = c .before .before .before in
-    let tested = gone .before .before .before .before in
-    let head = tested .before .before in
+    let head = gone .before .before .before .before .before .before in
     let start = head .before .before .before .before in
-    let within = fits (head .loop .inv) (goes-at tested) (gone .went .kept .1 .1 .0) (gone .went .ensures) in
+    let within = stands-fits (head .loop .inv .front) (readStep _ _ .bytes) _ _ (gone .went .ensures .0) (gone .went .kept .1 .1 .0) in
     omega (arith, within, start .good .1 .1 .1 .1 .0 .0)
 
 next-place-requires : tie.Need-next-place-requires Inv-loop μ-loop
@@ -148,14 +146,7 @@ same-length c = stands-kept (c .before .before .before .loop .inv .front)
 returns : tie.Need-returns Inv-loop μ-loop
 returns c =
     let head = c .before .before .before in
-    let inv = head .loop .inv in
-    let over = ends-at (c .before) in (
-      done inv over (c .pause-of .result) (c .pause-of .ensures (head .loop .s) (inv .same)),
-      printed inv over,
-      inv .plays,
-      inv .front .within,
-      inside inv over,
-    )
+    feeds (head .loop .inv) (ends-at (c .before)) (c .pause-of .result) (c .pause-of .ensures (head .loop .s) (head .loop .inv .same))
 
 pub feed-spec : {M : Type 1} → statement M
 feed-spec =

@@ -2,62 +2,52 @@
 -- Assumes nothing.
 use mathlib.Core.Path.{_≡_, sym, ap, _∙_}
 use mathlib.Core.Bool.{true}
-use mathlib.Core.List.{List, _++_}
+use mathlib.Core.List.{List}
 use Prim.Native.Nat.{ℕ}
 use native.Mathlib.Omega.{arith}
-use lib.ListN.{length, drop}
+use lib.ListN.{length}
 use borrow.Author.Needs.{needs}
 use denote.Ref.{now}
 use Rattle.rules.specs.Replay.{beginning, replay}
-use Rattle.rules.specs.Chunks.{part, fed, wholePart, printedIf, whole}
+use Rattle.rules.specs.Chunks.{fed, wholePart, printedIf, whole}
 use Rattle.rules.specs.Laws.Buffers.{Written}
 use Rattle.rules.specs.Laws.Chunks.{over-is-whole}
+use Rattle.rules.specs.Laws.Bools.{never}
 use Rattle.rules.specs.declared.replay.Replay.{Replay}
 use Rattle.rules.specs.declared.replay.Pause.{Pause}
 use Rattle.rules.specs.declared.replay.Pause.the-variants.{Over, Bytes, Room}
-use Rattle.rules.specs.declared.replay.Printed.{Printed}
 use Rattle.rules.specs.declared.replay.Printed.the-variants.{Bytes as BytesOf}
 use Rattle.rules.specs.declared.replay.Fed.{Fed}
+use Rattle.steps.specs.Fed.{Feeds, Prints}
 use Rattle.steps.proofs.chunk.whole.Statement.{statement}
 use Rattle.steps.proofs.chunk.whole.Tie as tie
 
-abbrev Whole : List ℕ → List ℕ → List ℕ → Printed → Type 0
-Whole trace o₀ o r =
-    (r ≡ whole trace (length o₀))
-    × (o ≡ wholePart trace (length o₀) .bytes ++ drop (length (wholePart trace (length o₀) .bytes)) o₀)
-    × ((n : ℕ) → r ≡ BytesOf n → Written (replay trace) n o₀ o)
-
-module _ (trace o₀ : List ℕ) {o : List ℕ} {s : Replay} {r : Fed} (begins : s ≡ beginning) (is : r ≡ fed true trace (length o₀) 0 s)
-    (written : Written (part true trace (length o₀) 0 s .bytes) (r .count) o₀ o) where
+module _ (trace o₀ : List ℕ) {o : List ℕ} {s : Replay} {r : Fed} (begins : s ≡ beginning) (feeds : Feeds true trace 0 s r o₀ o) where
   fed-is : r ≡ fed true trace (length o₀) 0 beginning
-  fed-is = rw begins at is
+  fed-is = rw begins at (feeds .answers)
 
-  part-is : Written (part true trace (length o₀) 0 beginning .bytes) (r .count) o₀ o
-  part-is = rw begins at written
+  part-is : Written (wholePart trace (length o₀) .bytes) (r .count) o₀ o
+  part-is = rw begins at (feeds .lines)
 
-  whole-is : (p : Pause) → r .pause ≡ p → printedIf p (r .count) ≡ whole trace (length o₀)
+  answers : (p : Pause) → r .pause ≡ p → Prints trace (printedIf p (r .count)) o₀ o
   unfolding whole
-  whole-is p e = rw (← fed-is, e)
-
-  answers : (p : Pause) → r .pause ≡ p → Whole trace o₀ o (printedIf p (r .count))
-  answers p e = (whole-is p e, part-is .1, all p e)
+  answers p e = record { answers = rw (← fed-is, e); leaves = part-is .1; all = all p e }
     where
       all : (p : Pause) → r .pause ≡ p → (n : ℕ) → printedIf p (r .count) ≡ BytesOf n → Written (replay trace) n o₀ o
       all Over e n f =
           let same : r .count ≡ n = cc in
           let over : fed true trace (length o₀) 0 beginning .pause ≡ Over = ap (λ (x : Fed). x .pause) (sym fed-is) ∙ e in
           rw (over-is-whole trace (length o₀) over, same) at part-is
-      all Bytes e n f = let z : _≡_ {A = ℕ} 0 1 = cc in absurd (omega arith)
-      all Room e n f = let z : _≡_ {A = ℕ} 0 1 = cc in absurd (omega arith)
+      all Bytes e n f = never (cc)
+      all Room e n f = never (cc)
 
 -- the same, once the chunk was fed
 answers-at : (c : tie.After-feed) (p : Pause) → c .feed .result .pause ≡ p →
     let start = c .before .before .before .before .before in
-    Whole (now (start .args .trace)) (now (start .args .out)) (c .feed .last .1 .1 .1 .1 .0) (printedIf p (c .feed .result .count))
+    Prints (now (start .args .trace)) (printedIf p (c .feed .result .count)) (now (start .args .out)) (c .feed .last .1 .1 .1 .1 .0)
 answers-at c p e =
     let start = c .before .before .before .before .before in
-    answers (now (start .args .trace)) (now (start .args .out)) (c .before .before .beginning .ensures .0) (c .feed .ensures .0)
-    (c .feed .ensures .1) p e
+    answers (now (start .args .trace)) (now (start .args .out)) (c .before .before .beginning .ensures .0) (c .feed .ensures) p e
 
 beginning-requires : tie.Need-beginning-requires
 beginning-requires c κs = tt

@@ -1,4 +1,4 @@
--- `record::carried` meets its contract: what each record's function did is what is done of the record that was found.
+-- `record::carried` meets its contract: what each record's function did is what is done of the record that was found, and no call comes here.
 -- Assumes nothing.
 use mathlib.Core.Path.{_≡_}
 use mathlib.Core.List.{List}
@@ -9,7 +9,7 @@ use Rattle.rules.specs.Replay.{recordStep}
 use Rattle.rules.specs.declared.trace.Record.{Record}
 use Rattle.rules.specs.declared.replay.Replay.{Replay}
 use Rattle.steps.specs.Went.{Does}
-use Rattle.steps.proofs.Records.{no-bio, no-tick, no-plan, no-vrate}
+use Rattle.steps.proofs.Records.{no-call}
 use Rattle.steps.proofs.record.carried.Statement.{statement}
 use Rattle.steps.proofs.record.carried.Tie as tie
 
@@ -35,29 +35,8 @@ enum-known-r-3 c = search needs
 start-requires : tie.Need-start-requires
 start-requires c κs = search needs
 
-enum-told : tie.Need-enum-told
-enum-told c = search needs
-
 stopped-requires : tie.Need-stopped-requires
 stopped-requires c κs = search needs
-
-enum-told-2 : tie.Need-enum-told-2
-enum-told-2 c = search needs
-
-stopped-requires-2 : tie.Need-stopped-requires-2
-stopped-requires-2 c κs = search needs
-
-enum-told-3 : tie.Need-enum-told-3
-enum-told-3 c = search needs
-
-stopped-requires-3 : tie.Need-stopped-requires-3
-stopped-requires-3 c κs = search needs
-
-enum-told-4 : tie.Need-enum-told-4
-enum-told-4 c = search needs
-
-stopped-requires-4 : tie.Need-stopped-requires-4
-stopped-requires-4 c κs = search needs
 
 same-length : tie.Need-same-length
 same-length c = search needs
@@ -93,25 +72,10 @@ same-length-4 : tie.Need-same-length-4
 same-length-4 c = search needs
 
 returns-4 : tie.Need-returns-4
-returns-4 c = absurd (no-bio (c .before .before .before .before .before .before .before .pre .2) _ (c .before .before .before .before .enum-told .given .1))
-
-same-length-5 : tie.Need-same-length-5
-same-length-5 c = search needs
-
-returns-5 : tie.Need-returns-5
-returns-5 c = absurd (no-tick (c .before .before .before .before .before .before .before .pre .2) _ (c .before .before .before .before .enum-told2 .given .1))
-
-same-length-6 : tie.Need-same-length-6
-same-length-6 c = search needs
-
-returns-6 : tie.Need-returns-6
-returns-6 c = absurd (no-plan (c .before .before .before .before .before .before .before .pre .2) (c .before .before .before .before .enum-told3 .given .1))
-
-same-length-7 : tie.Need-same-length-7
-same-length-7 c = search needs
-
-returns-7 : tie.Need-returns-7
-returns-7 c = absurd (no-vrate (c .before .before .before .before .before .before .before .pre .2) _ (c .before .before .before .before .enum-told4 .given .1))
+returns-4 c =
+    let arm = c .before .before .before .before in
+    let start = arm .before .before in
+    absurd (no-call (start .args .r) (start .pre .2) (arm .match .keys4))
 
 pub carried-spec : {M : Type 1} → statement M
 carried-spec =
@@ -123,14 +87,7 @@ carried-spec =
     model-requires
     enum-known-r-3
     start-requires
-    enum-told
     stopped-requires
-    enum-told-2
-    stopped-requires-2
-    enum-told-3
-    stopped-requires-3
-    enum-told-4
-    stopped-requires-4
     same-length
     returns
     same-length-2
@@ -138,10 +95,4 @@ carried-spec =
     same-length-3
     returns-3
     same-length-4
-    returns-4
-    same-length-5
-    returns-5
-    same-length-6
-    returns-6
-    same-length-7
-    returns-7)
+    returns-4)

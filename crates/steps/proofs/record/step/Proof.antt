@@ -4,8 +4,7 @@ use mathlib.Core.Path.{refl, sym, _∙_}
 use borrow.Author.Needs.{needs}
 use denote.Ref.{now}
 use Rattle.rules.specs.Trace.{readAt}
-use Rattle.steps.proofs.Records.{steps-not, steps-no-more, steps-on, same-read, no-run}
-use Rattle.steps.proofs.Running.{one-call}
+use Rattle.steps.proofs.Records.{steps-not, steps-no-more, steps-on, same-read, no-run, one-call}
 use Rattle.steps.proofs.record.step.Statement.{statement}
 use Rattle.steps.proofs.record.step.Tie as tie
 
@@ -44,7 +43,7 @@ returns-3 c =
     let a = tested .before .before .before .before .args in
     steps-on (readAt (now (a .trace)) (a .at)) (a .s) (now (a .out)) (tested .before .if1 .left) (sym (tested .is-stopped .ensures) ∙ going .if2 .left)
     (one-call (now (a .trace)) (a .at) (a .s) (now (a .out)) (called .before .read-at .ensures) (called .runs .ensures) (ran .before .before .if3 .taken) refl
-    (tested .before .if1 .left) (ran .run .ensures .0) (ran .run .ensures .2))
+    (tested .before .if1 .left) (ran .run .ensures))
 
 went-requires : tie.Need-went-requires
 went-requires c κs =

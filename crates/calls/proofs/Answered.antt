@@ -15,6 +15,7 @@ use Rattle.rules.specs.Invariant.{Sound}
 use Rattle.rules.specs.Laws.Buffers.{Written}
 use Rattle.rules.specs.Laws.Lines.{shareLinesOf, share-lines}
 use Rattle.rules.specs.Laws.Ticks.{tick-releases-fit}
+use Rattle.rules.specs.Laws.Bools.{never}
 use Rattle.rules.specs.declared.cost.Bio.{Bio}
 use Rattle.rules.specs.declared.budget.Controller.{Controller}
 use Rattle.rules.specs.declared.budget.Submitted.{Submitted}
@@ -31,7 +32,7 @@ use Rattle.rules.specs.declared.trace.Read.{Read}
 use Rattle.rules.specs.declared.trace.Read.the-variants.{Found}
 use Rattle.rules.specs.declared.replay.Call.{Call}
 use Rattle.rules.specs.declared.replay.Call.the-variants.{Bio as CallBio, Tick as CallTick, Plan as CallPlan, Vrate as CallVrate}
-use Rattle.steps.specs.Went.{CanPrint, planLinesOf}
+use Rattle.calls.specs.Calls.{CanPrint, planLinesOf}
 
 -- ---- an accepted tick releases no more than the lent buffer has places
 released-fit : {c : Controller} → Sound c → (time : ℕ) (lent : List ℕ) {done : Ticked} {n : ℕ} → done ≡ ticked time lent c
@@ -43,7 +44,7 @@ released-fit {c} sound time lent {done} {n} e f = go (firstOf (tickChecks time (
     go Accepted p q =
         let same : length (releases (growth (c .clock) time) c) ≡ n = cc in
         omega (arith, tick-releases-fit sound time (length lent) p)
-    go (Refused x) p q = let z : _≡_ {A = ℕ} 0 1 = cc in absurd (omega arith)
+    go (Refused x) p q = never (cc)
 
 pub can-print : {c : Controller} → Sound c → (time : ℕ) {done : Ticked} {places : ℕ} → done ≡ ticked time allRoom c → places ≡ 504
     → CanPrint (done .answer) places
@@ -84,10 +85,12 @@ module _ {r : ℕ} (o₀ o : List ℕ) where
 
   pub shares-put : {answer : Verdict} (active : ℕ) (shares : List ℕ) → answer ≡ Accepted → Written (shareLinesOf active shares) r o₀ o
       → Written (planLinesOf answer active shares) r o₀ o
+  unfolding planLinesOf
   shares-put active shares e w = rw e w
 
   pub unplanned-put : {answer : Verdict} {x : Refusal} (active : ℕ) (shares : List ℕ) → answer ≡ Refused x → Written (refusalLine x) r o₀ o
       → Written (planLinesOf answer active shares) r o₀ o
+  unfolding planLinesOf
   unplanned-put active shares e w = rw e w
 
 -- ---- what a call printed and left
@@ -95,7 +98,7 @@ abbrev pub Answered : Call → Controller → ℕ → List ℕ → List ℕ → 
 Answered call c r o₀ o d = Written (calling call c .bytes) r o₀ o × (d ≡ calling call c .state)
 
 plan-lines : (answer : Verdict) (c : Controller) → planLinesOf answer (c .active) (c .shares) ≡ planLines answer c
-unfolding planLines
+unfolding planLinesOf planLines
 plan-lines Accepted c = sym (share-lines c)
 plan-lines (Refused x) c = refl
 

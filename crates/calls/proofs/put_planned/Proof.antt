@@ -1,39 +1,31 @@
 -- `put_planned` meets its contract: the lines of the active leaves, or the refusal's.
 -- Assumes nothing.
 use borrow.Author.Needs.{needs}
-use Rattle.steps.proofs.Answered.{shares-put, unplanned-put}
-use Rattle.steps.proofs.calls.put_planned.Statement.{statement}
-use Rattle.steps.proofs.calls.put_planned.Tie as tie
+use Rattle.calls.proofs.Answered.{shares-put, unplanned-put}
+use Rattle.calls.proofs.put_planned.Statement.{statement}
+use Rattle.calls.proofs.put_planned.Tie as tie
 
--- src/calls.rt:73:64
 enum-told : tie.Need-enum-told
 enum-told c = search needs
 
--- src/calls.rt:73:30
 put-shares-requires : tie.Need-put-shares-requires
 put-shares-requires c κs = search needs
 
--- src/calls.rt:74:26
 enum-known-answer : tie.Need-enum-known-answer
 enum-known-answer c = search needs
 
--- src/calls.rt:74:32
 put-refusal-requires : tie.Need-put-refusal-requires
 put-refusal-requires c κs = search needs
 
--- src/calls.rt:68:1
 same-length : tie.Need-same-length
 same-length c = search needs
 
--- src/calls.rt:68:1
 returns : tie.Need-returns
 returns c = shares-put _ _ _ _ (c .before .before .before .before .enum-told .given .1) (c .before .before .put-shares .ensures)
 
--- src/calls.rt:68:1
 same-length-2 : tie.Need-same-length-2
 same-length-2 c = search needs
 
--- src/calls.rt:68:1
 returns-2 : tie.Need-returns-2
 returns-2 c = unplanned-put _ _ _ _ (c .before .before .before .before .before .answer .given .1) (c .before .before .put-refusal .ensures)
 

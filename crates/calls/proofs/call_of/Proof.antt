@@ -2,88 +2,69 @@
 -- Assumes nothing.
 use borrow.Author.Needs.{needs}
 use Rattle.rules.specs.Chunks.{callOf}
-use Rattle.steps.proofs.Answered.{asks-bio, asks-tick, asks-vrate}
-use Rattle.steps.proofs.calls.call_of.Statement.{statement}
-use Rattle.steps.proofs.calls.call_of.Tie as tie
+use Rattle.calls.proofs.Answered.{asks-bio, asks-tick, asks-vrate}
+use Rattle.calls.proofs.call_of.Statement.{statement}
+use Rattle.calls.proofs.call_of.Tie as tie
 
--- src/calls.rt:31:21
 enum-known-read : tie.Need-enum-known-read
 enum-known-read c = search needs
 
--- src/calls.rt:32:35
 enum-told : tie.Need-enum-told
 enum-told c = search needs
 
--- src/calls.rt:33:33
 enum-told-2 : tie.Need-enum-told-2
 enum-told-2 c = search needs
 
--- src/calls.rt:34:33
 enum-told-3 : tie.Need-enum-told-3
 enum-told-3 c = search needs
 
--- src/calls.rt:35:25
 enum-known-r : tie.Need-enum-known-r
 enum-known-r c = search needs
 
--- src/calls.rt:36:26
 enum-known-r-2 : tie.Need-enum-known-r-2
 enum-known-r-2 c = search needs
 
--- src/calls.rt:37:29
 enum-told-4 : tie.Need-enum-told-4
 enum-told-4 c = search needs
 
--- src/calls.rt:38:27
 enum-known-r-3 : tie.Need-enum-known-r-3
 enum-known-r-3 c = search needs
 
--- src/calls.rt:40:22
 enum-told-5 : tie.Need-enum-told-5
 enum-told-5 c = search needs
 
--- src/calls.rt:41:29
 enum-told-6 : tie.Need-enum-told-6
 enum-told-6 c = search needs
 
--- src/calls.rt:27:1
 returns : tie.Need-returns
 unfolding callOf
 returns c = search needs
 
--- src/calls.rt:27:1
 returns-2 : tie.Need-returns-2
 unfolding callOf
 returns-2 c = search needs
 
--- src/calls.rt:27:1
 returns-3 : tie.Need-returns-3
 unfolding callOf
 returns-3 c = search needs
 
--- src/calls.rt:27:1
 returns-4 : tie.Need-returns-4
 returns-4 c = asks-bio (c .before .before .before .before .read .given .1) _ (c .before .r .given .1)
 
--- src/calls.rt:27:1
 returns-5 : tie.Need-returns-5
 returns-5 c = asks-tick (c .before .before .before .before .read .given .1) _ (c .before .r2 .given .1)
 
--- src/calls.rt:27:1
 returns-6 : tie.Need-returns-6
 unfolding callOf
 returns-6 c = search needs
 
--- src/calls.rt:27:1
 returns-7 : tie.Need-returns-7
 returns-7 c = asks-vrate (c .before .before .before .before .read .given .1) _ (c .before .r3 .given .1)
 
--- src/calls.rt:27:1
 returns-8 : tie.Need-returns-8
 unfolding callOf
 returns-8 c = search needs
 
--- src/calls.rt:27:1
 returns-9 : tie.Need-returns-9
 unfolding callOf
 returns-9 c = search needs

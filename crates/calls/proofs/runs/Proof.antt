@@ -2,22 +2,18 @@
 -- Assumes nothing.
 use borrow.Author.Needs.{needs}
 use Rattle.rules.specs.Chunks.{runs}
-use Rattle.steps.proofs.calls.runs.Statement.{statement}
-use Rattle.steps.proofs.calls.runs.Tie as tie
+use Rattle.calls.proofs.runs.Statement.{statement}
+use Rattle.calls.proofs.runs.Tie as tie
 
--- src/calls.rt:73:5
 is-running-requires : tie.Need-is-running-requires
 is-running-requires c κs = search needs
 
--- src/calls.rt:73:33
 call-of-requires : tie.Need-call-of-requires
 call-of-requires c κs = search needs
 
--- src/calls.rt:73:25
 is-call-requires : tie.Need-is-call-requires
 is-call-requires c κs = search needs
 
--- src/calls.rt:70:1
 returns : tie.Need-returns
 unfolding runs
 returns c = rw (c .is-call .ensures, c .before .call-of .ensures, c .before .before .is-running .ensures)

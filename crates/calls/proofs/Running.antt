@@ -7,25 +7,23 @@ use mathlib.Core.Logic.{⊎-elim, inl, inr, _⊎_}
 use Prim.Native.Nat.{ℕ, zero, suc, _+_, _-_, _≤_, _<_}
 use native.Mathlib.Omega.{arith}
 use lib.Dec.{leb, ltb}
-use lib.ListN.{length, length-append, length-drop}
+use lib.ListN.{length}
 use borrow.Author.Tests.{lt-leb, leb-true, leb-false, ltb-true, ltb-false}
 use Rattle.rules.specs.Numbers.{lineRoom}
 use Rattle.rules.specs.Trace.{readAt}
-use Rattle.rules.specs.Replay.{nextPlace, readStep}
-use Rattle.rules.specs.Chunks.{Run, callOf, isCall, isRunning, runs, calling, still, calledBefore, runFrom}
+use Rattle.rules.specs.Replay.{nextPlace}
+use Rattle.rules.specs.Chunks.{callOf, isCall, calling, still, calledBefore, runFrom}
 use Rattle.rules.specs.Invariant.{Sound}
 use Rattle.rules.specs.Laws.Bools.{and-left, and-right}
-use Rattle.rules.specs.Laws.Buffers.{Written, Stands, restOf, putBack, stands-none, stands-kept, stands-rest, stands-more}
-use Rattle.rules.specs.Laws.Runs.{calling-keeps, call-steps, holding, run-goes}
+use Rattle.rules.specs.Laws.Buffers.{Written, Stands, restOf, putBack, stands-none, stands-kept, stands-rest, stands-fits, stands-more}
+use Rattle.rules.specs.Laws.Runs.{calling-keeps, run-goes}
 use Rattle.rules.specs.declared.cost.Bio.{Bio}
 use Rattle.rules.specs.declared.budget.Controller.{Controller}
 use Rattle.rules.specs.declared.trace.Read.{Read}
 use Rattle.rules.specs.declared.replay.Call.{Call}
 use Rattle.rules.specs.declared.replay.Call.the-variants.{Bio as CallBio, Tick as CallTick, Plan as CallPlan, Vrate as CallVrate, None as NoCall}
-use Rattle.rules.specs.declared.replay.Phase.{Phase}
-use Rattle.rules.specs.declared.replay.Replay.{Replay}
-use Rattle.steps.specs.Went.{Does}
-use Rattle.steps.proofs.Answered.{Answered}
+use Rattle.calls.specs.Calls.{RanAs}
+use Rattle.calls.proofs.Answered.{Answered}
 
 -- ---- which are calls
 none-is-no-call : isCall NoCall ≡ false
@@ -54,25 +52,25 @@ neither true = refl
 neither false = refl
 
 module _ (trace : List ℕ) (room at : ℕ) (c : Controller) where
-  pub ends-here : (left : ℕ) → isCall (callOf (readAt trace at)) ≡ false → runFrom left trace room at c ≡ still at c
+  ends-here : (left : ℕ) → isCall (callOf (readAt trace at)) ≡ false → runFrom left trace room at c ≡ still at c
   unfolding runFrom
   ends-here zero e = refl
   ends-here (suc more) e = rw e
 
-  pub ends-full : (left : ℕ) → room < lineRoom → runFrom left trace room at c ≡ still at c
+  ends-full : (left : ℕ) → room < lineRoom → runFrom left trace room at c ≡ still at c
   unfolding runFrom
   ends-full zero l = refl
   ends-full (suc more) l = rw (lt-leb lineRoom room l, neither (isCall (callOf (readAt trace at))))
 
-  pub ends-spent : (left : ℕ) → left ≡ 0 → runFrom left trace room at c ≡ still at c
+  ends-spent : (left : ℕ) → left ≡ 0 → runFrom left trace room at c ≡ still at c
   unfolding runFrom
   ends-spent zero e = refl
   ends-spent (suc more) e = absurd (omega arith)
 
 -- ---- the loop's test
 module _ (left room : ℕ) where
-  passes : (ltb 0 left && leb lineRoom room) ≡ true → (0 < left) × (lineRoom ≤ room)
-  passes e = (ltb-true 0 left (and-left (ltb 0 left) (leb lineRoom room) e), leb-true lineRoom room (and-right (ltb 0 left) (leb lineRoom room) e))
+  pub goes : (ltb 0 left && leb lineRoom room) ≡ true → (0 < left) × (lineRoom ≤ room)
+  goes e = (ltb-true 0 left (and-left (ltb 0 left) (leb lineRoom room) e), leb-true lineRoom room (and-right (ltb 0 left) (leb lineRoom room) e))
 
   over : (ltb 0 left && leb lineRoom room) ≡ false → (left ≡ 0) ⊎ (room < lineRoom)
   over e = go (ltb 0 left) refl e
@@ -82,13 +80,13 @@ module _ (left room : ℕ) where
       go false f h = inl (omega (arith, ltb-false 0 left f))
 
 -- ---- the loop
-pub record Going (trace o₀ : List ℕ) (most place : ℕ) (c₀ : Controller) (o : List ℕ) (c : Controller) (at count left : ℕ) : Type 0 where
+pub record Running (trace o₀ : List ℕ) (most place : ℕ) (c₀ : Controller) (o : List ℕ) (c : Controller) (at count left : ℕ) : Type 0 where
   pub bytes : List ℕ
   pub front : Stands bytes o₀ o count
   pub sound : Sound c
   pub same : runFrom most trace (length o₀) place c₀ ≡ calledBefore bytes (runFrom left trace (length o₀ - count) at c)
 
-pub begun : (trace o₀ : List ℕ) (most place : ℕ) (c : Controller) → Sound c → Going trace o₀ most place c o₀ c place 0 most
+pub begun : (trace o₀ : List ℕ) (most place : ℕ) (c : Controller) → Sound c → Running trace o₀ most place c o₀ c place 0 most
 begun trace o₀ most place c sound =
     let all : length o₀ ≡ length o₀ - 0 = omega arith in
     record {
@@ -99,44 +97,27 @@ begun trace o₀ most place c sound =
     }
 
 module _ {trace o₀ : List ℕ} {most place : ℕ} {c₀ : Controller} {o : List ℕ} {c : Controller} {at count left : ℕ}
-    (v : Going trace o₀ most place c₀ o c at count left) where
+    (v : Running trace o₀ most place c₀ o c at count left) where
   pub asks : (k : ℕ) → k ≤ lineRoom → lineRoom ≤ length o - count → k ≤ length (restOf o count)
   asks k l h = rw (stands-rest (v .front)) (omega (arith, stands-kept (v .front)))
 
-  pub goes : (ltb 0 left && leb lineRoom (length o - count)) ≡ true → (0 < left) × (lineRoom ≤ length o - count)
-  goes e = passes left (length o - count) e
+  -- what the run is, if it ends here
+  abbrev Ran-here : Type 0
+  Ran-here = RanAs (runFrom most trace (length o₀) place c₀) (record { count = count; place = at; state = c }) o₀ o
 
-  pub falls : (ltb 0 left && leb lineRoom (length o - count)) ≡ true → left - 1 < left
-  falls e = omega (arith, goes e .0)
-
-  -- what a call wrote into the rest fits there
-  pub fits : (call : Call) (d : Controller) (r : ℕ) (ys : List ℕ) → Answered call c r (restOf o count) ys d → length ys ≡ length (restOf o count)
-      → count + r ≤ length o₀
-  fits call d r ys answered l =
-      let x : List ℕ = calling call c .bytes in
-      let w : Written x r (restOf o count) ys = answered .0 in
-      let a : length x + (length (restOf o count) - length x) ≡ length (restOf o count) = rw (length-append, length-drop) at (ap length (sym (w .1)) ∙ l) in
-      omega (arith, a, w .0, stands-rest (v .front), v .front .within)
-
-  pub ran : runFrom left trace (length o₀ - count) at c ≡ still at c
-      → Written (runFrom most trace (length o₀) place c₀ .bytes) count o₀ o
-      × (at ≡ runFrom most trace (length o₀) place c₀ .place) × (c ≡ runFrom most trace (length o₀) place c₀ .state)
+  ran : runFrom left trace (length o₀ - count) at c ≡ still at c → Ran-here
   ran e =
       let all : runFrom most trace (length o₀) place c₀ ≡ calledBefore (v .bytes) (still at c) = v .same ∙ ap (calledBefore (v .bytes)) e in
-      rw (all, append-nil) (v .front .front, refl, refl)
+      record { lines = rw (all, append-nil) (v .front .front); place = rw all; state = rw all }
 
-  pub ends : (ltb 0 left && leb lineRoom (length o - count)) ≡ false
-      → Written (runFrom most trace (length o₀) place c₀ .bytes) count o₀ o
-      × (at ≡ runFrom most trace (length o₀) place c₀ .place) × (c ≡ runFrom most trace (length o₀) place c₀ .state)
+  pub ends : (ltb 0 left && leb lineRoom (length o - count)) ≡ false → Ran-here
   ends e =
       ⊎-elim (λ (z : left ≡ 0). ran (ends-spent trace (length o₀ - count) at c left z))
       (λ (z : length o - count < lineRoom). ran (ends-full trace (length o₀ - count) at c left (rw (stands-kept (v .front)) at z)))
       (over left (length o - count) e)
 
   module _ {read : Read} {call : Call} (e : read ≡ readAt trace at) (k : call ≡ callOf read) where
-    pub no-call : call ≡ NoCall
-        → Written (runFrom most trace (length o₀) place c₀ .bytes) count o₀ o
-        × (at ≡ runFrom most trace (length o₀) place c₀ .place) × (c ≡ runFrom most trace (length o₀) place c₀ .state)
+    pub no-call : call ≡ NoCall → Ran-here
     no-call i =
         let here : callOf (readAt trace at) ≡ NoCall = ap callOf (sym e) ∙ sym k ∙ i in
         ran (ends-here trace (length o₀ - count) at c left (rw here none-is-no-call))
@@ -144,7 +125,7 @@ module _ {trace o₀ : List ℕ} {most place : ℕ} {c₀ : Controller} {o : Lis
     pub called : (call' : Call) {next : ℕ} {d : Controller} → 0 < left → lineRoom ≤ length o - count → call ≡ call' → isCall call' ≡ true
         → next ≡ nextPlace read at → (r : ℕ) (ys : List ℕ) → Answered call' c r (restOf o count) ys d
         → length ys ≡ length (restOf o count)
-        → Going trace o₀ most place c₀ (putBack o count ys) d next (count + r) (left - 1)
+        → Running trace o₀ most place c₀ (putBack o count ys) d next (count + r) (left - 1)
     called call' {next} {d} some room i is n r ys answered l =
         let w : Written (calling call' c .bytes) r (restOf o count) ys = answered .0 in
         let here : callOf (readAt trace at) ≡ call' = ap callOf (sym e) ∙ sym k ∙ i in
@@ -153,23 +134,7 @@ module _ {trace o₀ : List ℕ} {most place : ℕ} {c₀ : Controller} {o : Lis
         let less : length o₀ - count - length (calling call' c .bytes) ≡ length o₀ - (count + r) = omega (arith, w .0) in
         record {
           bytes = v .bytes ++ calling call' c .bytes;
-          front = stands-more (v .front) (calling call' c .bytes) ys r w (fits call' d r ys answered l);
+          front = stands-more (v .front) (calling call' c .bytes) ys r w (stands-fits (v .front) (calling call' c .bytes) ys r w l);
           sound = rw (answered .1) (calling-keeps call' (v .sound));
           same = v .same ∙ ap (calledBefore (v .bytes)) turn ∙ rw (here, ← e, ← n, ← (answered .1), less, append-assoc);
         }
-
--- ---- one call alone
-pub one-call : (trace : List ℕ) (at : ℕ) (s : Replay) (o₀ : List ℕ) {read : Read} {phase : Phase} {b : Bool} {count : ℕ} {o : List ℕ} {d : Controller}
-    → read ≡ readAt trace at → b ≡ runs phase read → b ≡ true → s .phase ≡ phase → lineRoom ≤ length o₀
-    → Written (runFrom 1 trace (length o₀) at (s .state) .bytes) count o₀ o → d ≡ runFrom 1 trace (length o₀) at (s .state) .state
-    → Does (readStep (readAt trace at) s) count (holding s d) o₀ o
-unfolding runs
-one-call trace at s o₀ {read} {phase} {b} e f t q l w i =
-    let on : runs (s .phase) (readAt trace at) ≡ true = rw (q, ← e) (sym f ∙ t) in
-    let is : isCall (callOf (readAt trace at)) ≡ true = and-right (isRunning (s .phase)) (isCall (callOf (readAt trace at))) on in
-    let one : runFrom 1 trace (length o₀) at (s .state)
-    ≡ calledBefore (calling (callOf (readAt trace at)) (s .state) .bytes)
-    (still (nextPlace (readAt trace at) at) (calling (callOf (readAt trace at)) (s .state) .state)) =
-    run-goes trace 1 (length o₀) at (s .state) (omega arith) is l
-    ∙ ap (calledBefore (calling (callOf (readAt trace at)) (s .state) .bytes)) (ends-spent trace _ _ _ 0 refl) in
-    rw (call-steps (readAt trace at) s on) (rw (one, append-nil) at w, ap (holding s) (i ∙ ap (λ (r : Run). r .state) one))

@@ -9,7 +9,7 @@ ghost use Rattle.rules.specs.Replay.{tickLines, nextPlace};
 ghost use Rattle.rules.specs.Chunks.{callOf, isCall, isRunning, runs as runsOf, runFrom};
 ghost use Rattle.rules.specs.Laws.Buffers.{Written};
 ghost use Rattle.rules.specs.Invariant.{Sound};
-ghost use Rattle.steps.specs.Went.{CanPrint, planLinesOf};
+ghost use Rattle.calls.specs.Calls.{CanPrint, planLinesOf, RanAs};
 use rules::budget::Controller;
 use rules::refusals::Count;
 use rules::refusals::Verdict;
@@ -109,7 +109,7 @@ fn put_planned(answer: Verdict, active: u64, shares: &[u32; 64], out: &mut [u8])
 // At most so many calls in a row, from a place of the trace on, while the line buffer has room for any.
 pub fn run(mut c: Controller, trace: &[u8], place: usize, most: usize, out: &mut [u8]) -> Ran
     requires { ⌜ Sound c ⌝ }
-    ensures { λ r. ⌜ Written (runFrom most (now (trace .entry)) (length (now (out .entry))) place c .bytes) (r .count) (now (out .entry)) (now (out .exit)) × (r .place ≡ runFrom most (now (trace .entry)) (length (now (out .entry))) place c .place) × (r .state ≡ runFrom most (now (trace .entry)) (length (now (out .entry))) place c .state) ⌝ }
+    ensures { λ r. ⌜ RanAs (runFrom most (now (trace .entry)) (length (now (out .entry))) place c) r (now (out .entry)) (now (out .exit)) ⌝ }
 {
     let mut at = place;
     let mut count: usize = 0;
