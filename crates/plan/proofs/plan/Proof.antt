@@ -133,10 +133,8 @@ donors-are c =
 shared-requires : tie.Need-shared-requires Inv-loop μ-loop
 shared-requires c κs =
     let judged = c .before .before .before .before .before .before .before in
-    let met =
     ready (start (judged .before .before .before) .pre) (judged .before .is-quiet .result) (c .before .before .before .before .targets-in .result) (active-is judged)
-    (c .before .before .before .before .before .base-shares .ensures) (donors-are (c .before)) (c .closed .ensures) in
-    (met .no-root, met .no-root-gives, met .donation, met .worth)
+    (c .before .before .before .before .before .base-shares .ensures) (donors-are (c .before)) (c .closed .ensures)
 
 returns-2 : tie.Need-returns-2 Inv-loop μ-loop
 returns-2 c =
