@@ -19,7 +19,7 @@ use Rattle.rules.specs.Words.{has, setTo, setOf}
 use Rattle.rules.specs.Budget.{emptyQueue}
 use Rattle.rules.specs.Plan.{usedShare, targetOf}
 use Rattle.rules.specs.Laws.Bools.{and-not-right, or-right, or-neither}
-use Rattle.rules.specs.Laws.Sets.{set-small, set-cong, set-back, set-ext, has-set, has-past, has-setOf}
+use Rattle.rules.specs.Laws.Sets.{set-small, set-cong, set-back, set-ext, has-set, has-past, has-setOf, setOf-fits, insert-here, insert-others}
 use Rattle.rules.specs.Laws.Units.{ceil-least}
 use Rattle.leaf.specs.Alone.{some}
 use Rattle.rules.specs.declared.units.Abs.{Abs}
@@ -32,10 +32,6 @@ by-place k n before here behind =
     dite (decLt k n) before
     (λ g. let m : n ≤ k = le-of-suc-le-suc (lt-of-not-le g) in ⊎-elim (λ (i : n ≡ k). here (sym i)) behind (eq-or-lt-of-le m))
 
-or-nothing : (a b : Bool) → b ≡ false → (a || b) ≡ a
-or-nothing true b e = refl
-or-nothing false b e = e
-
 module _ (p : ℕ → Bool) (s n : ℕ) (e : s ≡ setTo p n) where
   -- a node that is left out
   pub left-out : p n ≡ false → s ≡ setTo p (n + 1)
@@ -44,32 +40,18 @@ module _ (p : ℕ → Bool) (s n : ℕ) (e : s ≡ setTo p n) where
 
   -- a node that is put in
   module _ (node : n < nodesMost) (f : p n ≡ true) where
-    below : (k : ℕ) → k < n → (has s k || eqb k n) ≡ has (setTo p (n + 1)) k
-    below k l =
-        or-nothing (has s k) (eqb k n) (ne-eqb k n (λ z. omega arith))
-        ∙ ap (λ (t : ℕ). has t k) e
-        ∙ has-set p n k l
-        ∙ sym (has-set p (n + 1) k (omega arith))
-
-    here : (k : ℕ) → k ≡ n → (has s k || eqb k n) ≡ has (setTo p (n + 1)) k
-    here k i =
-        or-right (has s k) (eqb k n) (eq-eqb k n i)
-        ∙ sym (has-set p (n + 1) k (omega arith) ∙ ap p i ∙ f)
-
-    above : (k : ℕ) → n < k → (has s k || eqb k n) ≡ has (setTo p (n + 1)) k
-    above k l =
-        or-neither (has s k) (eqb k n) (ap (λ (t : ℕ). has t k) e ∙ has-past p n k (omega arith)) (ne-eqb k n (λ z. omega arith))
-        ∙ sym (has-past p (n + 1) k (omega arith))
-
-    each : (k : ℕ) → (has s k || eqb k n) ≡ has (setTo p (n + 1)) k
-    each k = by-place k n (below k) (here k) (above k)
+    each : (k : ℕ) → k < nodesMost → has (setOf (λ j. has s j || eqb j n)) k ≡ has (setTo p (n + 1)) k
+    each k l =
+        by-place k n
+        (λ (b : k < n). insert-others s n k l (λ z. omega arith) ∙ rw e (has-set p n k b ∙ sym (has-set p (n + 1) k (omega arith))))
+        (λ (i : k ≡ n). insert-here s n k l i ∙ sym (has-set p (n + 1) k (omega arith) ∙ ap p i ∙ f))
+        (λ (a : n < k). insert-others s n k l (λ z. omega arith) ∙ rw e (has-past p n k (omega arith) ∙ sym (has-past p (n + 1) k (omega arith))))
 
     pub put-in : setOf (λ k. has s k || eqb k n) ≡ setTo p (n + 1)
     put-in =
         let last : n + 1 ≤ nodesMost = omega arith in
-        set-ext (setOf (λ k. has s k || eqb k n)) (setTo p (n + 1)) nodesMost (set-small (λ k. has s k || eqb k n) nodesMost)
-        (lt-of-lt-of-le (set-small p (n + 1)) (pow-mono last))
-        (λ k h. has-setOf (λ j. has s j || eqb j n) k h ∙ each k)
+        set-ext (setOf (λ k. has s k || eqb k n)) (setTo p (n + 1)) nodesMost (setOf-fits (λ k. has s k || eqb k n))
+        (lt-of-lt-of-le (set-small p (n + 1)) (pow-mono last)) each
 
 -- ---- nodes cleared one by one: of those before n the ones are left that p holds of, and from n on all
 abbrev pub leftAt : ℕ → (ℕ → Bool) → ℕ → ℕ → Bool

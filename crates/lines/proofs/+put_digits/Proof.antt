@@ -8,7 +8,7 @@ use lib.ListN.{length, set, length-append}
 use borrow.Author.Needs.{needs}
 use denote.Ref.{now}
 use Rattle.rules.specs.Replay.{digits}
-use Rattle.rules.specs.Laws.Buffers.{Written, Stands, stands-kept, stands-in, stands-byte, stands-first}
+use Rattle.rules.specs.Laws.Buffers.{Written, Stands, stands-in, stands-byte, stands-first}
 use Rattle.rules.specs.Laws.Lines.{digits-short, digits-long}
 use borrow.Fn.Kinds.{In}
 use borrow.Fn.PlainCycle.{Measures, is, falls, and}
@@ -110,13 +110,13 @@ put-digits-add-out-2 : (t : ℕ) → put-digits-lts.Need-add-out-2 (
   put-digits-below t,
   put-digits.Post,
 ) (put-digits-at t) put-digits.Post
-put-digits-add-out-2 t c = omega arith
+put-digits-add-out-2 t c = search needs
 
 put-digits-cast-out-2 : (t : ℕ) → put-digits-lts.Need-cast-out-2 (
   put-digits-below t,
   put-digits.Post,
 ) (put-digits-at t) put-digits.Post
-put-digits-cast-out-2 t c = omega arith
+put-digits-cast-out-2 t c = search needs
 
 put-digits-slice-write-out-2 : (t : ℕ) → put-digits-lts.Need-slice-write-out-2 (
   put-digits-below t,
@@ -146,11 +146,7 @@ put-digits-same-length-2 : (t : ℕ) → put-digits-lts.Need-same-length-2 (
   put-digits-below t,
   put-digits.Post,
 ) (put-digits-at t) put-digits.Post
-put-digits-same-length-2 t c =
-    let called = c .before .before in
-    let start = called .before .before .before .before in
-    stands-kept (long (start .args .n) (now (start .args .out)) (start .pre .1) (omega (arith, called .before .before .if1 .left)) (start .fits .n .fits) (called .put-digits .result)
-    (called .put-digits .last .1 .0) (called .put-digits .ensures))
+put-digits-same-length-2 t c = search needs
 
 put-digits-returns-2 : (t : ℕ) → put-digits-lts.Need-returns-2 (
   put-digits-below t,

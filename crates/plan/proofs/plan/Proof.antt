@@ -43,7 +43,7 @@ returns : tie.Need-returns Inv-loop μ-loop
 returns c = refused (c .before .before .before .before .args .t1) (c .if1 .taken)
 
 loop-holds : tie.Need-loop-holds Inv-loop μ-loop
-loop-holds c = (refl, refl, omega arith)
+loop-holds c = search needs
 
 mul-row : tie.Need-mul-row Inv-loop μ-loop
 mul-row c = search needs
@@ -112,7 +112,7 @@ base-shares-requires c κs =
     (sound .tree, still-within sound (c .before .before .is-quiet .result) (c .before .active-after .result) (active-is (c .before)))
 
 targets-in-requires : tie.Need-targets-in-requires Inv-loop μ-loop
-targets-in-requires c κs = let read = c .before .before .before .before .before in (some read, start read .pre .clock .since-most)
+targets-in-requires c κs = search needs
 
 donors-in-requires : tie.Need-donors-in-requires Inv-loop μ-loop
 donors-in-requires c κs = search needs

@@ -19,7 +19,7 @@ abbrev μ-loop : tie.MeasureT-loop
 μ-loop time out₀ c₀ gain at₀ n₀ out c at n = 64 - n
 
 growth-requires : tie.Need-growth-requires Inv-loop μ-loop
-growth-requires c κs = passing-is-near (c .before .before .pre .0) (c .before .before .pre .1)
+growth-requires c κs = search needs
 
 loop-holds : tie.Need-loop-holds Inv-loop μ-loop
 loop-holds c = begins (c .before .before .before .pre .0) (c .growth .result) (now (c .before .before .before .args .out))
