@@ -1,30 +1,25 @@
--- What the turns of the loops rest on: a set that is built node by node, one from which nodes are cleared, how many wait at
--- a place, and how large a target is.
+-- What the turns of the loops rest on: a set that is built node by node, one from which nodes are cleared, and how large a
+-- target is.
 -- Assumes nothing.
-use mathlib.Core.Path.{_≡_, refl, sym, ap, _∙_}
+use mathlib.Core.Path.{_≡_, sym, ap, _∙_}
 use mathlib.Core.Bool.{Bool, true, false, not, _&&_, _||_, and-true}
-use mathlib.Core.List.{List, [], _∷_}
 use mathlib.Core.Logic.{⊎-elim, dite}
-use Prim.Native.Nat.{ℕ, zero, suc, _+_, _^_, _≤_, _<_}
+use Prim.Native.Nat.{ℕ, _+_, _^_, _≤_, _<_}
 use native.Mathlib.Nat.{add-zero, lt-of-not-le, le-of-suc-le-suc, lt-of-lt-of-le, eq-or-lt-of-le}
 use native.Mathlib.Numerals.{add-one}
 use native.Mathlib.Decide.{decLt}
 use native.Mathlib.Omega.{arith}
 use lib.Dec.{eqb, leb}
-use lib.ListN.{getD}
 use lib.Pow.{pow-mono}
 use borrow.Author.Tests.{le-leb, lt-leb, eq-eqb, ne-eqb}
 use Rattle.rules.specs.Numbers.{WHOLE, nodesMost}
 use Rattle.rules.specs.Words.{has, setTo, setOf}
-use Rattle.rules.specs.Budget.{emptyQueue}
 use Rattle.rules.specs.Plan.{usedShare, targetOf}
 use Rattle.rules.specs.Laws.Bools.{and-not-right, or-right, or-neither}
 use Rattle.rules.specs.Laws.Sets.{set-small, set-cong, set-back, set-ext, has-set, has-past, has-setOf, setOf-fits, insert-here, insert-others}
 use Rattle.rules.specs.Laws.Units.{ceil-least}
-use Rattle.leaf.specs.Alone.{some}
 use Rattle.rules.specs.declared.units.Abs.{Abs}
 use Rattle.rules.specs.declared.units.Virt.{Virt}
-use Rattle.rules.specs.declared.budget.Queue.{Queue}
 
 -- a node is before n, n itself, or behind it
 by-place : {P : Type 0} (k n : ℕ) → (k < n → P) → (k ≡ n → P) → (n < k → P) → P
@@ -94,12 +89,6 @@ module _ (active : ℕ) (p : ℕ → Bool) where
             ∙ sym (and-not-right (has active k) (leb (n + 1) k || p k) (rw i (or-neither (leb (n + 1) n) (p n) (lt-leb (n + 1) n (omega arith)) f))))
             (λ (l : n < k).
             rw (ne-eqb k n (λ z. omega arith), le-leb n k (omega arith), le-leb (n + 1) k (omega arith)) (and-true (has active k && true)))
-
--- no bio waits past the last queue, whatever else stands there
-pub waiting-at : (queues : List Queue) (n : ℕ) → getD queues n (some 0) .len ≡ getD queues n emptyQueue .len
-waiting-at [] n = refl
-waiting-at (q ∷ queues) zero = refl
-waiting-at (q ∷ queues) (suc n) = waiting-at queues n
 
 -- a leaf used the whole share at most, and its target is a quarter more
 used-most : (since : Virt) (usage : Abs) → 0 < since .0 → usedShare since usage ≤ WHOLE

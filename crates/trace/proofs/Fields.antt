@@ -16,7 +16,7 @@ use Rattle.rules.specs.declared.cost.Bio.{Bio}
 use Rattle.rules.specs.declared.trace.Record.the-variants.{Node}
 
 -- the number of so many bytes behind a place
-abbrev pub numberAt : List ℕ → ℕ → ℕ → ℕ
+abbrev numberAt : List ℕ → ℕ → ℕ → ℕ
 numberAt l at width = numberOf (take width (drop at l))
 
 -- a byte is a number of one byte

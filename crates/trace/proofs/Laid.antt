@@ -51,7 +51,7 @@ pub next-quotient : (n i : ℕ) → n / 256 ^ i / 256 ≡ n / 256 ^ (i + 1)
 next-quotient n i = rw (add-one, pow-suc, div-div-eq-div-mul)
 
 -- ---- the numbers of a body, put one behind the other
-abbrev pub putAll : List ℕ → List ℕ → ℕ → List ℕ → List ℕ
+abbrev putAll : List ℕ → List ℕ → ℕ → List ℕ → List ℕ
 putAll [] fs at l = l
 putAll (w ∷ ws) [] at l = l
 putAll (w ∷ ws) (f ∷ fs) at l = putAll ws fs (at + w) (laid (bytesOf w f) at l)

@@ -39,7 +39,7 @@ pub body-most : (kind : ℕ) → isKind kind ≡ true → total (layout kind) �
 unfolding layout
 body-most = kinds (λ kind. total (layout kind) ≤ 48) (lit≤ tt) (lit≤ tt) (lit≤ tt) (lit≤ tt) (lit≤ tt) (lit≤ tt) (lit≤ tt)
 
-pub length-record : (r : Record) → length (recordBytes r) ≡ total (layout (kindOf r)) + 1
+length-record : (r : Record) → length (recordBytes r) ≡ total (layout (kindOf r)) + 1
 unfolding recordBytes bodyOf bytesOf layout kindOf fieldsOf
 length-record (Node p w) = refl
 length-record (Model r) = refl
