@@ -3,11 +3,11 @@
 -- Assumes nothing.
 use mathlib.Core.Path.{_≡_, sym, ap, _∙_}
 use mathlib.Core.Bool.{Bool, true, false, not, _&&_, _||_, and-true}
-use mathlib.Core.Logic.{⊎-elim, dite}
+use mathlib.Core.Logic.{⊎-elim, dite, _≢_}
 use Prim.Native.Nat.{ℕ, _+_, _^_, _≤_, _<_}
 use native.Mathlib.Nat.{add-zero, lt-of-not-le, le-of-suc-le-suc, lt-of-lt-of-le, eq-or-lt-of-le}
 use native.Mathlib.Numerals.{add-one}
-use native.Mathlib.Decide.{decLt}
+use native.Mathlib.Decide.{ℕ-discrete, decLt}
 use native.Mathlib.Omega.{arith}
 use lib.Dec.{eqb, leb}
 use lib.Pow.{pow-mono}
@@ -62,33 +62,32 @@ module _ (active : ℕ) (p : ℕ → Bool) where
   all-cleared = set-cong (leftAt active p nodesMost) (λ k. has active k && p k) nodesMost (λ k l. rw (lt-leb nodesMost k l))
 
   module _ (s n : ℕ) (e : s ≡ setOf (leftAt active p n)) where
+    -- of every other node it is the same
+    others : (k : ℕ) → k ≢ n → leftAt active p n k ≡ leftAt active p (n + 1) k
+    others k apart =
+        by-place k n
+        (λ (l : k < n). rw (lt-leb n k l, lt-leb (n + 1) k (omega arith)))
+        (λ (i : k ≡ n). absurd (apart i))
+        (λ (l : n < k). rw (le-leb n k (omega arith), le-leb (n + 1) k (omega arith)))
+
     -- a node that is left
     pub left-in : p n ≡ true → s ≡ setOf (leftAt active p (n + 1))
-    left-in f = e ∙ set-cong (leftAt active p n) (leftAt active p (n + 1)) nodesMost (λ k l. ap (λ (b : Bool). has active k && b) (same k))
+    left-in f = e ∙ set-cong (leftAt active p n) (leftAt active p (n + 1)) nodesMost (λ k l. dite (ℕ-discrete k n) (here k) (others k))
       where
-        same : (k : ℕ) → (leb n k || p k) ≡ (leb (n + 1) k || p k)
-        same k =
-            by-place k n
-            (λ (l : k < n). rw (lt-leb n k l, lt-leb (n + 1) k (omega arith)))
-            (λ (i : k ≡ n). rw i (or-right (leb n n) (p n) f ∙ sym (or-right (leb (n + 1) n) (p n) f)))
-            (λ (l : n < k). rw (le-leb n k (omega arith), le-leb (n + 1) k (omega arith)))
+        here : (k : ℕ) → k ≡ n → leftAt active p n k ≡ leftAt active p (n + 1) k
+        here k i = rw (i, or-right (leb n n) (p n) f, or-right (leb (n + 1) n) (p n) f)
 
     -- a node that is cleared
     pub taken-out : p n ≡ false → setOf (λ k. has s k && not (eqb k n)) ≡ setOf (leftAt active p (n + 1))
-    taken-out f = set-cong (λ k. has s k && not (eqb k n)) (leftAt active p (n + 1)) nodesMost (λ k l. rw (was k l) (same k))
+    taken-out f = set-cong (λ k. has s k && not (eqb k n)) (leftAt active p (n + 1)) nodesMost (λ k l. dite (ℕ-discrete k n) (here k) (other k l))
       where
-        was : (k : ℕ) → k < nodesMost → has s k ≡ leftAt active p n k
-        was k l = ap (λ (t : ℕ). has t k) e ∙ has-setOf (leftAt active p n) k l
+        here : (k : ℕ) → k ≡ n → (has s k && not (eqb k n)) ≡ leftAt active p (n + 1) k
+        here k i =
+            and-not-right (has s k) (not (eqb k n)) (rw (eq-eqb k n i))
+            ∙ sym (and-not-right (has active k) (leb (n + 1) k || p k) (rw i (or-neither (leb (n + 1) n) (p n) (lt-leb (n + 1) n (omega arith)) f)))
 
-        same : (k : ℕ) → (leftAt active p n k && not (eqb k n)) ≡ leftAt active p (n + 1) k
-        same k =
-            by-place k n
-            (λ (l : k < n). rw (ne-eqb k n (λ z. omega arith), lt-leb n k l, lt-leb (n + 1) k (omega arith), and-true))
-            (λ (i : k ≡ n).
-            and-not-right (leftAt active p n k) (not (eqb k n)) (rw (eq-eqb k n i))
-            ∙ sym (and-not-right (has active k) (leb (n + 1) k || p k) (rw i (or-neither (leb (n + 1) n) (p n) (lt-leb (n + 1) n (omega arith)) f))))
-            (λ (l : n < k).
-            rw (ne-eqb k n (λ z. omega arith), le-leb n k (omega arith), le-leb (n + 1) k (omega arith)) (and-true (has active k && true)))
+        other : (k : ℕ) → k < nodesMost → k ≢ n → (has s k && not (eqb k n)) ≡ leftAt active p (n + 1) k
+        other k l apart = rw (ne-eqb k n apart, and-true, e) (has-setOf (leftAt active p n) k l ∙ others k apart)
 
 -- a leaf used the whole share at most, and its target is a quarter more
 used-most : (since : Virt) (usage : Abs) → 0 < since .0 → usedShare since usage ≤ WHOLE
