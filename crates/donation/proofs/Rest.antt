@@ -6,35 +6,22 @@ use mathlib.Core.List.{List}
 use mathlib.Core.Logic.{dite, _≢_}
 use Prim.Native.Nat.{ℕ, zero, suc, _+_, _-_, _*_, _^_, _≤_, _<_}
 use native.Mathlib.Nat.{add-zero, lt-of-not-le, le-of-suc-le-suc, mul-le-mul-left, mul-le-mul-right, div-le-of-le-mul}
-use native.Mathlib.Decide.{ℕ-discrete, decLt}
+use native.Mathlib.Decide.{decLt}
 use native.Mathlib.Omega.{arith}
 use lib.Dec.{eqb}
-use lib.ListN.{length, getD, set, length-set}
-use lib.Seq.{ext-getD, getD-set-same, getD-set-other}
-use borrow.Author.Tests.{not-true}
+use lib.ListN.{getD, set}
+use borrow.Author.Tests.{eqb-true, eqb-false}
 use Rattle.rules.specs.Numbers.{WHOLE, nodesMost, leafMost}
 use Rattle.rules.specs.Words.{sumTo, anyTo, table, has, setOf}
 use Rattle.rules.specs.Units.{FLOOR}
 use Rattle.rules.specs.Plan.{isTaker, isDonation, sumOver, takenOf, isLowest, remainder, shareGiven, donated}
-use Rattle.rules.specs.Laws.Bools.{true-not-false, and-left, and-right, and-both, and-not-left, and-not-right}
-use Rattle.rules.specs.Laws.Sums.{sum-cong, sum-in, any-cong, any-in, any-out, none-any}
-use Rattle.rules.specs.Laws.Tables.{table-length, table-at}
+use Rattle.rules.specs.Laws.Bools.{true-not-false, and-both, and-not-left, and-not-right}
+use Rattle.rules.specs.Laws.Sums.{sum-cong, sum-in, any-cong, any-in, none-any}
+use Rattle.rules.specs.Laws.Tables.{table-at, table-cong, table-set}
 use Rattle.rules.specs.Laws.Sets.{has-none, has-setOf, set-small, some-leaf}
-use Rattle.rules.specs.Laws.Donation.{S, D, T, bases-split, share-parts, takes-fit, targets-lower, kept-pos, kept-is}
+use Rattle.rules.specs.Laws.Donation.{taker-active, taker-no-donor, is-taker, one-taker, S, D, T, bases-split, share-parts, takes-fit, targets-lower}
 use Rattle.sets.specs.Lowest.{Lowest}
 use Rattle.donation.specs.Donation.{Donation, Parts}
-
--- ---- a table with one place set
-table-set : (f g : ℕ → ℕ) (i x : ℕ) → i < nodesMost → x ≡ g i → ((n : ℕ) → n < nodesMost → n ≢ i → f n ≡ g n) → set (table f) i x ≡ table g
-table-set f g i x h here others =
-    ext-getD 0 (set (table f) i x) (table g) (long ∙ sym (table-length g))
-    (λ n l. let m : n < nodesMost = omega (arith, long) in
-    dite (ℕ-discrete n i)
-    (λ (e : n ≡ i). rw e (getD-set-same (table f) i x 0 (rw (table-length f) h) ∙ here ∙ sym (table-at g i 0 h)))
-    (λ (e : n ≢ i). getD-set-other (table f) i n x 0 e ∙ table-at f n 0 m ∙ others n m e ∙ sym (table-at g n 0 m)))
-  where
-    long : length (set (table f) i x) ≡ nodesMost
-    long = length-set (table f) i x ∙ table-length f
 
 nothing-more : (b : Bool) → _≡_ {A = ℕ} (cond b 0 0) 0
 nothing-more true = refl
@@ -54,18 +41,6 @@ member-pos zero n e = absurd (true-not-false e (has-none n))
 member-pos (suc s) n e = omega arith
 
 module _ (active donors : ℕ) where
-  taker-active : (n : ℕ) → isTaker active donors n ≡ true → has active n ≡ true
-  unfolding isTaker
-  taker-active n e = and-left (has active n) (not (has donors n)) e
-
-  taker-no-donor : (n : ℕ) → isTaker active donors n ≡ true → has donors n ≡ false
-  unfolding isTaker
-  taker-no-donor n e = not-true (has donors n) (and-right (has active n) (not (has donors n)) e)
-
-  is-taker : (n : ℕ) → has active n ≡ true → has donors n ≡ false → isTaker active donors n ≡ true
-  unfolding isTaker
-  is-taker n a d = rw (a, d)
-
   root-takes-nothing : has active 0 ≡ false → isTaker active donors 0 ≡ false
   unfolding isTaker
   root-takes-nothing e = and-not-left (has active 0) (not (has donors 0)) e
@@ -88,7 +63,7 @@ module _ (active donors : ℕ) where
   module _ {left kept : ℕ} {bases : List ℕ} (p : Parts active donors left kept bases) (n : ℕ) (node : n < nodesMost) where
     pub quotient-fits : (d a : Bool) → d ≡ has donors n → a ≡ has active n → d ≡ false → a ≡ true → FLOOR (getD bases n 0 * left) kept < 2 ^ 32
     quotient-fits d a e f i j =
-        let h : getD bases n 0 * left ≤ kept * left = mul-le-mul-right left (p .base-kept n node (is-taker n (sym f ∙ j) (sym e ∙ i))) in
+        let h : getD bases n 0 * left ≤ kept * left = mul-le-mul-right left (p .base-kept n node (is-taker active donors n (sym f ∙ j) (sym e ∙ i))) in
         omega (arith, div-le-of-le-mul kept h, p .left-most)
 
   pub share-floored : (left kept : ℕ) (bases targets : List ℕ) (n r : ℕ) (d a : Bool) → d ≡ has donors n → a ≡ has active n
@@ -141,12 +116,11 @@ pub record Handing (active donors left : ℕ) (bases targets shares : List ℕ) 
 
 -- ---- a donation: left is S - T and kept is S - D
 module _ {active donors : ℕ} {bases targets : List ℕ} (d : Donation active donors bases targets) where
-  one-taker : (n : ℕ) × (0 < n) × (n ≤ leafMost) × (isTaker active donors n ≡ true)
-  unfolding isDonation
-  one-taker = any-out (isTaker active donors) leafMost (and-right (anyTo (has donors) leafMost) (anyTo (isTaker active donors) leafMost) (d .donates))
+  taker : (n : ℕ) × (0 < n) × (n ≤ leafMost) × (isTaker active donors n ≡ true)
+  taker = one-taker active donors (d .donates)
 
-  one-based : 0 < getD bases (one-taker .0) 0
-  one-based = d .based (one-taker .0) (taker-active active donors (one-taker .0) (one-taker .3))
+  one-based : 0 < getD bases (taker .0) 0
+  one-based = d .based (taker .0) (taker-active active donors (taker .0) (taker .3))
 
   pub bases-within : D donors bases ≤ S active bases
   bases-within = omega (arith, bases-split active donors bases targets (d .within))
@@ -156,13 +130,7 @@ module _ {active donors : ℕ} {bases targets : List ℕ} (d : Donation active d
 
   module _ {left kept : ℕ} (el : left ≡ S active bases - T donors targets) (ek : kept ≡ S active bases - D donors bases) where
     kept-takers : kept ≡ sumOver (isTaker active donors) bases
-    kept-takers =
-        ek ∙ kept-is active donors bases targets (d .within) (d .lower) (one-taker .0) (one-taker .1) (one-taker .2) (one-taker .3) one-based
-
-    some-kept : 0 < kept
-    some-kept =
-        rw kept-takers
-        (kept-pos active donors bases targets (d .within) (d .lower) (one-taker .0) (one-taker .1) (one-taker .2) (one-taker .3) one-based)
+    kept-takers = omega (arith, ek, bases-split active donors bases targets (d .within))
 
     left-most : left ≤ WHOLE
     left-most = omega (arith, el, d .sum-most)
@@ -177,6 +145,9 @@ module _ {active donors : ℕ} {bases targets : List ℕ} (d : Donation active d
         let h : cond (isTaker active donors n) (getD bases n 0) 0 ≤ sumTo (λ k. cond (isTaker active donors k) (getD bases k 0) 0) leafMost =
         sum-in (λ k. cond (isTaker active donors k) (getD bases k 0) 0) n leafMost (taker-leaf n e) (omega arith) in
         rw kept-takers (rw e at h)
+
+    some-kept : 0 < kept
+    some-kept = omega (arith, one-based, base-kept (taker .0) (omega (arith, taker .2)) (taker .3))
 
     pub parts : Parts active donors left kept bases
     parts = record { left-most = left-most; some-kept = some-kept; base-kept = base-kept }
@@ -209,7 +180,7 @@ module _ {active donors : ℕ} {bases targets : List ℕ} (d : Donation active d
 
       others-some : 0 < others
       others-some =
-          member-pos others (one-taker .0) (rw same (has-setOf (isTaker active donors) (one-taker .0) (omega (arith, one-taker .2)) ∙ one-taker .3))
+          member-pos others (taker .0) (rw same (has-setOf (isTaker active donors) (taker .0) (omega (arith, taker .2)) ∙ taker .3))
 
       module _ {rest first : ℕ} (er : rest ≡ left - sumOver (has others) shares) (least : Lowest others first) where
         takes : isTaker active donors first ≡ true
@@ -248,18 +219,17 @@ module _ {active donors : ℕ} {bases targets : List ℕ} (d : Donation active d
         others-get n apart =
             sym (rw (no-other-lowest active donors others first same least (taker-leaf first takes) n apart) at (rest-apart n) ∙ add-zero (floorAt n))
 
+        each-gets : (n : ℕ) (b : Bool) → eqb n first ≡ b → cond b (getD shares first 0 + rest) (floorAt n) ≡ shareAt n
+        each-gets n true e = let i : n ≡ first = eqb-true n first e in rw i first-gets
+        each-gets n false e = others-get n (eqb-false n first e)
+
         handed-out : set shares first (getD shares first 0 + rest) ≡ donated active donors bases targets
         unfolding donated
         handed-out =
-            ap (λ (l : List ℕ). set l first (getD shares first 0 + rest)) es
-            ∙ table-set floorAt shareAt first (getD shares first 0 + rest) (least .node) first-gets (λ n l apart. others-get n apart)
-            ∙ ap (λ (r : ℕ). table (shareGiven active donors left kept r bases targets)) rest-remains
-            ∙ ap (λ (l : ℕ). table (shareGiven active donors l kept (remainder active donors l kept bases) bases targets)) el
-            ∙ ap
-            (λ (k : ℕ).
-            table (shareGiven active donors (S active bases - T donors targets) k
-            (remainder active donors (S active bases - T donors targets) k bases) bases targets))
-            ek
+            rw (← el, ← ek, ← rest-remains)
+            (ap (λ (l : List ℕ). set l first (getD shares first 0 + rest)) es
+            ∙ table-set floorAt first (getD shares first 0 + rest) (least .node)
+            ∙ table-cong _ shareAt (λ n l. each-gets n (eqb n first) refl))
 
       pub handing : Handing active donors left bases targets shares others
       handing = record { within = floors-within; some = others-some; most = λ er least. first-most er least; out = λ er least. handed-out er least }

@@ -1,19 +1,18 @@
 -- What holds when a plan donates, and what its sums leave for each taker.
 -- Assumes nothing.
-use mathlib.Core.Path.{_≡_, refl, sym}
-use mathlib.Core.Bool.{Bool, true, false, cond}
+use mathlib.Core.Path.{_≡_}
+use mathlib.Core.Bool.{true, false}
 use mathlib.Core.List.{List}
 use Prim.Native.Nat.{ℕ, _≤_, _<_}
 use native.Mathlib.Omega.{arith}
 use lib.ListN.{getD}
-use Rattle.rules.specs.Numbers.{WHOLE, nodesMost, leafMost}
-use Rattle.rules.specs.Words.{sumTo, has}
-use Rattle.rules.specs.Tree.{baseShare, baseShares, isThin}
+use Rattle.rules.specs.Numbers.{WHOLE, nodesMost}
+use Rattle.rules.specs.Words.{has}
+use Rattle.rules.specs.Tree.{baseShares, isThin}
 use Rattle.rules.specs.Plan.{isTaker, isDonation, sumOver}
-use Rattle.rules.specs.Laws.Bools.{is-false}
-use Rattle.rules.specs.Laws.Sums.{sum-cong}
-use Rattle.rules.specs.Laws.Trees.{SoundTree, Within, leaf-pos, leaf-last, last-most}
-use Rattle.rules.specs.Laws.Shares.{no-base-share, base-shares-at, base-shares-end, leaves-share-at-most-whole, not-thin-keeps-the-floor}
+use Rattle.rules.specs.Laws.Trees.{SoundTree, Within, no-root-within}
+use Rattle.rules.specs.Laws.Shares.{base-shares-at, base-shares-end, leaves-share-at-most-whole, not-thin-keeps-the-floor}
+use Rattle.rules.specs.Laws.Resharing.{active-node, bases-sum}
 use Rattle.rules.specs.declared.tree.Tree.{Tree}
 
 -- the root is no leaf, each active leaf has a base share, and a donor is active and its target is no more than its base share
@@ -33,28 +32,14 @@ pub record Parts (active donors left kept : ℕ) (bases : List ℕ) : Type 0 whe
 
 -- ---- base shares of a tree that is not thin meet it, with donors whose targets are below them
 module _ {t : Tree} (sound : SoundTree t) (thick : isThin t ≡ false) (active donors : ℕ) (targets : List ℕ) (leaves : Within t active) where
-  active-node : (n : ℕ) → has active n ≡ true → n < nodesMost
-  active-node n e = omega (arith, leaf-last t n (leaves n e), last-most sound)
-
-  no-root : has active 0 ≡ false
-  no-root = is-false (has active 0) (λ e. omega (arith, leaf-pos t 0 (leaves 0 e)))
-
-  bases-sum : sumOver (has active) (baseShares t active) ≡ sumTo (baseShare t active) leafMost
-  unfolding sumOver
-  bases-sum = sum-cong _ _ leafMost (λ n p q. go n (omega arith) (has active n) refl)
-    where
-      go : (n : ℕ) → n < nodesMost → (a : Bool) → has active n ≡ a → cond a (getD (baseShares t active) n 0) 0 ≡ baseShare t active n
-      go n l true e = base-shares-at t active n l
-      go n l false e = sym (no-base-share t active n e)
-
   pub planned : ((n : ℕ) → has donors n ≡ true → has active n ≡ true)
       → ((n : ℕ) → has donors n ≡ true → getD targets n 0 < getD (baseShares t active) n 0)
       → isDonation active donors ≡ true → Donation active donors (baseShares t active) targets
   planned within lower donates = record {
-    root = no-root;
+    root = no-root-within t active leaves;
     within = within;
-    based = λ n e. omega (arith, base-shares-at t active n (active-node n e), not-thin-keeps-the-floor sound thick active n leaves e);
+    based = λ n e. omega (arith, base-shares-at t active n (active-node sound active leaves n e), not-thin-keeps-the-floor sound thick active n leaves e);
     lower = λ n e. omega (arith, lower n e);
-    sum-most = omega (arith, bases-sum, base-shares-end sound active leaves, leaves-share-at-most-whole sound active leaves);
+    sum-most = omega (arith, bases-sum sound active leaves, base-shares-end sound active leaves, leaves-share-at-most-whole sound active leaves);
     donates = donates;
   }

@@ -1,7 +1,7 @@
 // The lines of the replay, as bytes at the front of a buffer that the caller lends: each function writes one kind of
 // line, leaves the rest of the buffer as it was, and answers how many bytes it wrote. What a line says is decided above.
 ghost use mathlib.Core.Path.{_≡_};
-ghost use mathlib.Core.List.{[], _∷_};
+ghost use mathlib.Core.List.{[], _∷_, _++_};
 ghost use Prim.Native.Nat.{_+_, _*_, _≤_, _<_};
 ghost use lib.ListN.{length, take};
 ghost use Rattle.rules.specs.Refusals.{number};
@@ -54,14 +54,25 @@ pub fn put_digits(n: u64, out: &mut [u8]) -> usize
     at + 1
 }
 
-// A blank before the number.
-fn put_number(n: u64, out: &mut [u8]) -> usize
-    requires { ⌜ 1 + length (digits n) ≤ length (now out) ⌝ }
-    ensures { λ r. ⌜ Written (32 ∷ digits n) r (now (out .entry)) (now (out .exit)) ⌝ }
+// A number and the byte that ends it: a blank or a line feed.
+fn put_number(n: u64, end: u8, out: &mut [u8]) -> usize
+    requires { ⌜ length (digits n) < length (now out) ⌝ }
+    ensures { λ r. ⌜ Written (digits n ++ (end ∷ [])) r (now (out .entry)) (now (out .exit)) ⌝ }
 {
-    out[0] = b' ';
-    let count = put_digits(n, &mut out[1..]);
-    1 + count
+    let at = put_digits(n, out);
+    out[at] = end;
+    at + 1
+}
+
+// A letter and the first number, which `end` ends.
+fn put_start(letter: u8, a: u64, end: u8, out: &mut [u8]) -> usize
+    requires { ⌜ 2 + length (digits a) < length (now out) ⌝ }
+    ensures { λ r. ⌜ Written (letter ∷ 32 ∷ (digits a ++ (end ∷ []))) r (now (out .entry)) (now (out .exit)) ⌝ }
+{
+    out[0] = letter;
+    out[1] = b' ';
+    let count = put_number(a, end, &mut out[2..]);
+    2 + count
 }
 
 // A letter and one number.
@@ -69,10 +80,7 @@ pub fn put_line1(letter: u8, a: u64, out: &mut [u8]) -> usize
     requires { ⌜ length (line letter (a ∷ [])) ≤ length (now out) ⌝ }
     ensures { λ r. ⌜ Written (line letter (a ∷ [])) r (now (out .entry)) (now (out .exit)) ⌝ }
 {
-    out[0] = letter;
-    let at = 1 + put_number(a, &mut out[1..]);
-    out[at] = b'\n';
-    at + 1
+    put_start(letter, a, b'\n', out)
 }
 
 // A letter and two numbers.
@@ -80,11 +88,9 @@ pub fn put_line2(letter: u8, a: u64, b: u64, out: &mut [u8]) -> usize
     requires { ⌜ length (line letter (a ∷ b ∷ [])) ≤ length (now out) ⌝ }
     ensures { λ r. ⌜ Written (line letter (a ∷ b ∷ [])) r (now (out .entry)) (now (out .exit)) ⌝ }
 {
-    out[0] = letter;
-    let first = 1 + put_number(a, &mut out[1..]);
-    let last = first + put_number(b, &mut out[first..]);
-    out[last] = b'\n';
-    last + 1
+    let at = put_start(letter, a, b' ', out);
+    let count = put_number(b, b'\n', &mut out[at..]);
+    at + count
 }
 
 // I, W, D or r, and an id: at most 13 bytes.

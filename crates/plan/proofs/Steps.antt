@@ -13,7 +13,7 @@ use Rattle.rules.specs.Words.{sumTo, table, has, setOf}
 use Rattle.rules.specs.Units.{abs}
 use Rattle.rules.specs.Tree.{baseShares}
 use Rattle.rules.specs.Budget.{rowAt, queueAt, shareAt}
-use Rattle.rules.specs.Plan.{usageAll, isQuiet, forgiven, targetOf, isDonor, isDonation, quietIn, activeAfter, targetsIn, donorsIn, closed, shared, plan}
+use Rattle.rules.specs.Plan.{usageAll, isQuiet, forgiven, targetOf, isDonor, quietIn, activeAfter, targetsIn, donorsIn, closed, shared, plan}
 use Rattle.rules.specs.Refusals.{planChecks}
 use Rattle.rules.specs.Entries.{plannedBy, planned}
 use Rattle.rules.specs.Invariant.{worthMost, Sound}
@@ -22,10 +22,10 @@ use Rattle.rules.specs.Laws.Sets.{set-cong}
 use Rattle.rules.specs.Laws.Sums.{sum-cong}
 use Rattle.rules.specs.Laws.Tables.{table-at, table-cong}
 use Rattle.rules.specs.Laws.States.{usage-small}
-use Rattle.rules.specs.Laws.Trees.{Within, leaf-pos}
+use Rattle.rules.specs.Laws.Trees.{Within, no-root-within}
 use Rattle.rules.specs.Laws.Plans.{closed-worth, after-within, donor-active, donor-is}
-use Rattle.donation.specs.Donation.{Donation}
 use Rattle.donation.specs.Donation as donation
+use Rattle.plan.specs.Sharing.{CanShare}
 use Rattle.leaf.specs.Alone.{staysWith, isDonorWith, donor-by-count}
 use Rattle.rules.specs.declared.units.Abs.{Abs}
 use Rattle.rules.specs.declared.budget.Controller.{Controller}
@@ -93,12 +93,6 @@ pub still-within : {c : Controller} → Sound c → (quiet : Bool) (active : ℕ
 still-within s quiet active e = rw e (after-within s quiet)
 
 -- ---- what sharing asks
-pub record Ready (active donors : ℕ) (bases targets : List ℕ) (books : Controller) : Type 0 where
-  pub no-root : has active 0 ≡ false
-  pub no-root-gives : has donors 0 ≡ false
-  pub donation : isDonation active donors ≡ true → Donation active donors bases targets
-  pub worth : (n : ℕ) → rowAt books n .budget .0 * shareAt books n ≤ worthMost
-
 module _ {c : Controller} (s : Sound c) (quiet : Bool) {active donors : ℕ} {bases : List ℕ} (targets : List ℕ) {books : Controller}
     (ea : active ≡ activeAfter quiet c) (eb : bases ≡ baseShares (c .tree) active) (ed : donors ≡ donorsIn quiet active bases targets c)
     (ek : books ≡ closed quiet active c) where
@@ -106,7 +100,7 @@ module _ {c : Controller} (s : Sound c) (quiet : Bool) {active donors : ℕ} {ba
   within = still-within s quiet active ea
 
   root-idle : has active 0 ≡ false
-  root-idle = is-false (has active 0) (λ e. omega (arith, leaf-pos (c .tree) 0 (within 0 e)))
+  root-idle = no-root-within (c .tree) active within
 
   is-candidate : (n : ℕ) → has donors n ≡ true → has (donorsIn quiet (activeAfter quiet c) bases targets c) n ≡ true
   is-candidate n e = rw (ed, ea) at e
@@ -121,7 +115,7 @@ module _ {c : Controller} (s : Sound c) (quiet : Bool) {active donors : ℕ} {ba
   unfolding closed
   closed-worthy n = le-trans (closed-worth quiet active c (s .rows-all) n) (s .worth-most n)
 
-  pub ready : Ready active donors bases targets books
+  pub ready : CanShare active donors bases targets books
   ready = record {
     no-root = root-idle;
     no-root-gives = is-false (has donors 0) (λ e. true-not-false (gives-active 0 e) root-idle);

@@ -1,40 +1,31 @@
--- What the turns of the loops rest on: a set that is built node by node, one from which nodes are cleared, how many wait at
--- a place, and how large a target is.
+-- What the turns of the loops rest on: a set that is built node by node, one from which nodes are cleared, and how large a
+-- target is.
 -- Assumes nothing.
-use mathlib.Core.Path.{_≡_, refl, sym, ap, _∙_}
+use mathlib.Core.Path.{_≡_, sym, ap, _∙_}
 use mathlib.Core.Bool.{Bool, true, false, not, _&&_, _||_, and-true}
-use mathlib.Core.List.{List, [], _∷_}
-use mathlib.Core.Logic.{⊎-elim, dite}
-use Prim.Native.Nat.{ℕ, zero, suc, _+_, _^_, _≤_, _<_}
+use mathlib.Core.Logic.{⊎-elim, dite, _≢_}
+use Prim.Native.Nat.{ℕ, _+_, _^_, _≤_, _<_}
 use native.Mathlib.Nat.{add-zero, lt-of-not-le, le-of-suc-le-suc, lt-of-lt-of-le, eq-or-lt-of-le}
 use native.Mathlib.Numerals.{add-one}
-use native.Mathlib.Decide.{decLt}
+use native.Mathlib.Decide.{ℕ-discrete, decLt}
 use native.Mathlib.Omega.{arith}
 use lib.Dec.{eqb, leb}
-use lib.ListN.{getD}
 use lib.Pow.{pow-mono}
 use borrow.Author.Tests.{le-leb, lt-leb, eq-eqb, ne-eqb}
 use Rattle.rules.specs.Numbers.{WHOLE, nodesMost}
 use Rattle.rules.specs.Words.{has, setTo, setOf}
-use Rattle.rules.specs.Budget.{emptyQueue}
 use Rattle.rules.specs.Plan.{usedShare, targetOf}
 use Rattle.rules.specs.Laws.Bools.{and-not-right, or-right, or-neither}
-use Rattle.rules.specs.Laws.Sets.{set-small, set-cong, set-back, set-ext, has-set, has-past, has-setOf}
+use Rattle.rules.specs.Laws.Sets.{set-small, set-cong, set-back, set-ext, has-set, has-past, has-setOf, setOf-fits, insert-here, insert-others}
 use Rattle.rules.specs.Laws.Units.{ceil-least}
-use Rattle.leaf.specs.Alone.{counted}
 use Rattle.rules.specs.declared.units.Abs.{Abs}
 use Rattle.rules.specs.declared.units.Virt.{Virt}
-use Rattle.rules.specs.declared.budget.Queue.{Queue}
 
 -- a node is before n, n itself, or behind it
 by-place : {P : Type 0} (k n : ℕ) → (k < n → P) → (k ≡ n → P) → (n < k → P) → P
 by-place k n before here behind =
     dite (decLt k n) before
     (λ g. let m : n ≤ k = le-of-suc-le-suc (lt-of-not-le g) in ⊎-elim (λ (i : n ≡ k). here (sym i)) behind (eq-or-lt-of-le m))
-
-or-nothing : (a b : Bool) → b ≡ false → (a || b) ≡ a
-or-nothing true b e = refl
-or-nothing false b e = e
 
 module _ (p : ℕ → Bool) (s n : ℕ) (e : s ≡ setTo p n) where
   -- a node that is left out
@@ -44,32 +35,18 @@ module _ (p : ℕ → Bool) (s n : ℕ) (e : s ≡ setTo p n) where
 
   -- a node that is put in
   module _ (node : n < nodesMost) (f : p n ≡ true) where
-    below : (k : ℕ) → k < n → (has s k || eqb k n) ≡ has (setTo p (n + 1)) k
-    below k l =
-        or-nothing (has s k) (eqb k n) (ne-eqb k n (λ z. omega arith))
-        ∙ ap (λ (t : ℕ). has t k) e
-        ∙ has-set p n k l
-        ∙ sym (has-set p (n + 1) k (omega arith))
-
-    here : (k : ℕ) → k ≡ n → (has s k || eqb k n) ≡ has (setTo p (n + 1)) k
-    here k i =
-        or-right (has s k) (eqb k n) (eq-eqb k n i)
-        ∙ sym (has-set p (n + 1) k (omega arith) ∙ ap p i ∙ f)
-
-    above : (k : ℕ) → n < k → (has s k || eqb k n) ≡ has (setTo p (n + 1)) k
-    above k l =
-        or-neither (has s k) (eqb k n) (ap (λ (t : ℕ). has t k) e ∙ has-past p n k (omega arith)) (ne-eqb k n (λ z. omega arith))
-        ∙ sym (has-past p (n + 1) k (omega arith))
-
-    each : (k : ℕ) → (has s k || eqb k n) ≡ has (setTo p (n + 1)) k
-    each k = by-place k n (below k) (here k) (above k)
+    each : (k : ℕ) → k < nodesMost → has (setOf (λ j. has s j || eqb j n)) k ≡ has (setTo p (n + 1)) k
+    each k l =
+        by-place k n
+        (λ (b : k < n). insert-others s n k l (λ z. omega arith) ∙ rw e (has-set p n k b ∙ sym (has-set p (n + 1) k (omega arith))))
+        (λ (i : k ≡ n). insert-here s n k l i ∙ sym (has-set p (n + 1) k (omega arith) ∙ ap p i ∙ f))
+        (λ (a : n < k). insert-others s n k l (λ z. omega arith) ∙ rw e (has-past p n k (omega arith) ∙ sym (has-past p (n + 1) k (omega arith))))
 
     pub put-in : setOf (λ k. has s k || eqb k n) ≡ setTo p (n + 1)
     put-in =
         let last : n + 1 ≤ nodesMost = omega arith in
-        set-ext (setOf (λ k. has s k || eqb k n)) (setTo p (n + 1)) nodesMost (set-small (λ k. has s k || eqb k n) nodesMost)
-        (lt-of-lt-of-le (set-small p (n + 1)) (pow-mono last))
-        (λ k h. has-setOf (λ j. has s j || eqb j n) k h ∙ each k)
+        set-ext (setOf (λ k. has s k || eqb k n)) (setTo p (n + 1)) nodesMost (setOf-fits (λ k. has s k || eqb k n))
+        (lt-of-lt-of-le (set-small p (n + 1)) (pow-mono last)) each
 
 -- ---- nodes cleared one by one: of those before n the ones are left that p holds of, and from n on all
 abbrev pub leftAt : ℕ → (ℕ → Bool) → ℕ → ℕ → Bool
@@ -85,39 +62,32 @@ module _ (active : ℕ) (p : ℕ → Bool) where
   all-cleared = set-cong (leftAt active p nodesMost) (λ k. has active k && p k) nodesMost (λ k l. rw (lt-leb nodesMost k l))
 
   module _ (s n : ℕ) (e : s ≡ setOf (leftAt active p n)) where
+    -- of every other node it is the same
+    others : (k : ℕ) → k ≢ n → leftAt active p n k ≡ leftAt active p (n + 1) k
+    others k apart =
+        by-place k n
+        (λ (l : k < n). rw (lt-leb n k l, lt-leb (n + 1) k (omega arith)))
+        (λ (i : k ≡ n). absurd (apart i))
+        (λ (l : n < k). rw (le-leb n k (omega arith), le-leb (n + 1) k (omega arith)))
+
     -- a node that is left
     pub left-in : p n ≡ true → s ≡ setOf (leftAt active p (n + 1))
-    left-in f = e ∙ set-cong (leftAt active p n) (leftAt active p (n + 1)) nodesMost (λ k l. ap (λ (b : Bool). has active k && b) (same k))
+    left-in f = e ∙ set-cong (leftAt active p n) (leftAt active p (n + 1)) nodesMost (λ k l. dite (ℕ-discrete k n) (here k) (others k))
       where
-        same : (k : ℕ) → (leb n k || p k) ≡ (leb (n + 1) k || p k)
-        same k =
-            by-place k n
-            (λ (l : k < n). rw (lt-leb n k l, lt-leb (n + 1) k (omega arith)))
-            (λ (i : k ≡ n). rw i (or-right (leb n n) (p n) f ∙ sym (or-right (leb (n + 1) n) (p n) f)))
-            (λ (l : n < k). rw (le-leb n k (omega arith), le-leb (n + 1) k (omega arith)))
+        here : (k : ℕ) → k ≡ n → leftAt active p n k ≡ leftAt active p (n + 1) k
+        here k i = rw (i, or-right (leb n n) (p n) f, or-right (leb (n + 1) n) (p n) f)
 
     -- a node that is cleared
     pub taken-out : p n ≡ false → setOf (λ k. has s k && not (eqb k n)) ≡ setOf (leftAt active p (n + 1))
-    taken-out f = set-cong (λ k. has s k && not (eqb k n)) (leftAt active p (n + 1)) nodesMost (λ k l. rw (was k l) (same k))
+    taken-out f = set-cong (λ k. has s k && not (eqb k n)) (leftAt active p (n + 1)) nodesMost (λ k l. dite (ℕ-discrete k n) (here k) (other k l))
       where
-        was : (k : ℕ) → k < nodesMost → has s k ≡ leftAt active p n k
-        was k l = ap (λ (t : ℕ). has t k) e ∙ has-setOf (leftAt active p n) k l
+        here : (k : ℕ) → k ≡ n → (has s k && not (eqb k n)) ≡ leftAt active p (n + 1) k
+        here k i =
+            and-not-right (has s k) (not (eqb k n)) (rw (eq-eqb k n i))
+            ∙ sym (and-not-right (has active k) (leb (n + 1) k || p k) (rw i (or-neither (leb (n + 1) n) (p n) (lt-leb (n + 1) n (omega arith)) f)))
 
-        same : (k : ℕ) → (leftAt active p n k && not (eqb k n)) ≡ leftAt active p (n + 1) k
-        same k =
-            by-place k n
-            (λ (l : k < n). rw (ne-eqb k n (λ z. omega arith), lt-leb n k l, lt-leb (n + 1) k (omega arith), and-true))
-            (λ (i : k ≡ n).
-            and-not-right (leftAt active p n k) (not (eqb k n)) (rw (eq-eqb k n i))
-            ∙ sym (and-not-right (has active k) (leb (n + 1) k || p k) (rw i (or-neither (leb (n + 1) n) (p n) (lt-leb (n + 1) n (omega arith)) f))))
-            (λ (l : n < k).
-            rw (ne-eqb k n (λ z. omega arith), le-leb n k (omega arith), le-leb (n + 1) k (omega arith)) (and-true (has active k && true)))
-
--- no bio waits past the last queue, whatever else stands there
-pub waiting-at : (queues : List Queue) (n : ℕ) → getD queues n (counted 0) .len ≡ getD queues n emptyQueue .len
-waiting-at [] n = refl
-waiting-at (q ∷ queues) zero = refl
-waiting-at (q ∷ queues) (suc n) = waiting-at queues n
+        other : (k : ℕ) → k < nodesMost → k ≢ n → (has s k && not (eqb k n)) ≡ leftAt active p (n + 1) k
+        other k l apart = rw (ne-eqb k n apart, and-true, e) (has-setOf (leftAt active p n) k l ∙ others k apart)
 
 -- a leaf used the whole share at most, and its target is a quarter more
 used-most : (since : Virt) (usage : Abs) → 0 < since .0 → usedShare since usage ≤ WHOLE

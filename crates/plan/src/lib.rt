@@ -1,19 +1,19 @@
 // The entry plan: debts are forgiven, idle leaves go inactive, base shares are worked out anew and donated, and usage
 // and E start at 0. Each function is one step; what a step does to one leaf is the crate leaf's.
 ghost use mathlib.Core.Path.{_≡_};
-ghost use mathlib.Core.Bool.{Bool, true, false, _&&_, _||_};
-ghost use Prim.Native.Nat.{ℕ, _+_, _^_, _*_, _≤_, _<_};
+ghost use mathlib.Core.Bool.{Bool, _&&_, _||_};
+ghost use Prim.Native.Nat.{ℕ, _+_, _^_, _≤_, _<_};
 ghost use lib.Dec.{leb};
 ghost use lib.ListN.{getD};
 ghost use Rattle.rules.specs.Numbers.{leafMost, sinceMost};
 ghost use Rattle.rules.specs.Words.{sumTo, table, has as member, setTo, setOf};
 ghost use Rattle.rules.specs.Units.{abs};
-ghost use Rattle.rules.specs.Budget.{emptyRow, rowAt, shareAt};
-ghost use Rattle.rules.specs.Plan.{isQuiet, forgiven as forgivenOf, rested, restarted, targetOf, closed as closedOf, isDonation, shared as sharedOf};
+ghost use Rattle.rules.specs.Budget.{emptyRow};
+ghost use Rattle.rules.specs.Plan.{isQuiet, forgiven as forgivenOf, rested, restarted, targetOf, closed as closedOf, shared as sharedOf};
 ghost use Rattle.rules.specs.Entries.{planned};
-ghost use Rattle.rules.specs.Invariant.{worthMost, Sound};
+ghost use Rattle.rules.specs.Invariant.{Sound};
 ghost use Rattle.leaf.specs.Alone.{staysWith, isDonorWith};
-ghost use Rattle.donation.specs.Donation.{Donation};
+ghost use Rattle.plan.specs.Sharing.{CanShare};
 use controller::shares::reshared;
 use donation::donated;
 use donation::is_donation;
@@ -180,7 +180,7 @@ fn shared(
     bases: [u32; 64],
     targets: [u32; 64],
 ) -> Controller
-    requires { ⌜ (member active 0 ≡ false) × (member donors 0 ≡ false) × (isDonation active donors ≡ true → Donation active donors bases targets) × ((n : ℕ) → rowAt c n .budget .0 * shareAt c n ≤ worthMost) ⌝ }
+    requires { ⌜ CanShare active donors bases targets c ⌝ }
     ensures { λ r. ⌜ r ≡ sharedOf active donors bases targets c ⌝ }
 {
     if is_donation(active, donors) {

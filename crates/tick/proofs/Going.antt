@@ -5,20 +5,21 @@ use mathlib.Core.Bool.{Bool, true, false}
 use mathlib.Core.List.{List, _++_, append-nil}
 use Prim.Native.Nat.{ℕ, _+_, _-_, _≤_, _<_}
 use native.Mathlib.Omega.{arith}
-use lib.ListN.{length, take, drop, getD, set, length-append}
+use lib.ListN.{length, getD, set}
 use Rattle.rules.specs.Numbers.{nodesMost, leafMost}
 use Rattle.rules.specs.Words.{sumTo, joinTo, table, has}
 use Rattle.rules.specs.Budget.{rowAt, queueAt, shareAt, emptyRow, emptyQueue}
 use Rattle.rules.specs.Tick.{Turn, growth, advanced, turn, turnOf, releases, lentAfter, tick, waitingAll}
 use Rattle.rules.specs.Entries.{tickedBy, lentBy}
 use Rattle.rules.specs.Invariant.{Sound}
-use Rattle.rules.specs.Laws.Bools.{is-false}
+use Rattle.rules.specs.Laws.Buffers.{Written, Stands, restOf, putBack, stands-none, stands-rest, stands-more}
 use Rattle.rules.specs.Laws.Sums.{sum-step, sum-le, sum-part, length-join, join-step}
 use Rattle.rules.specs.Laws.Tables.{getD-inside}
 use Rattle.rules.specs.Laws.Sweeps.{swept, place-here, place-put, place-skip, places-done}
 use Rattle.rules.specs.Laws.Passes.{TickPasses}
-use Rattle.rules.specs.Laws.States.{active-pos, share-most, usage-small-at}
+use Rattle.rules.specs.Laws.States.{share-most, usage-small-at}
 use Rattle.rules.specs.Laws.Ticks.{active-turn, idle-turn, leaf-tick}
+use Rattle.rules.specs.Laws.Trees.{no-root-within}
 use Rattle.rules.specs.declared.units.Virt.{Virt}
 use Rattle.rules.specs.declared.budget.Row.{Row}
 use Rattle.rules.specs.declared.budget.Queue.{Queue}
@@ -32,7 +33,6 @@ use Rattle.leaf.specs.Fit.{Fit, gainMost}
 use Rattle.leaf.specs.Turns.{turned}
 use Rattle.leaf.specs.declared.tick.Turned.{Turned}
 use Rattle.tick.specs.Clocks.{Near}
-use Rattle.tick.proofs.Lent.{nothing-written, lent-length, rest-length, lent-on}
 
 abbrev withLeaves : List Row → List Queue → Controller → Controller
 withLeaves rows queues c = record {
@@ -71,10 +71,7 @@ pub record Going (g : Virt) (c : Controller) (lent : List ℕ) (s : Controller) 
   pub rows : s .rows ≡ swept (table (rowOf g c)) (c .rows) n
   pub queues : s .queues ≡ swept (table (queueOf g c)) (c .queues) n
   pub rest : s ≡ withLeaves (s .rows) (s .queues) c
-  pub count : at ≡ length (idsBelow g c n)
-  pub written : out ≡ lentAfter (idsBelow g c n) lent
-  pub size : length out ≡ length lent
-  pub inside : at ≤ length lent
+  pub front : Stands (idsBelow g c n) lent out at
 
 pub same-going : {g : Virt} {c : Controller} {lent : List ℕ} {s s′ : Controller} {out out′ : List ℕ} {at at′ n : ℕ}
     → out′ ≡ out → s′ ≡ s → at′ ≡ at → Going g c lent s out at n → Going g c lent s′ out′ at′ n
@@ -92,7 +89,7 @@ module _ {c : Controller} (sound : Sound c) (g : Virt) where
       (sum-le (λ n. length (idsOf g c n)) (λ n. queueAt c n .len) m (λ n p l. omega (arith, leaf-tick sound g n .left)))
 
   root-is-idle : has (c .active) 0 ≡ false
-  root-is-idle = is-false (has (c .active) 0) (λ e. let p : 0 < 0 = active-pos sound 0 e in omega arith)
+  root-is-idle = no-root-within (c .tree) (c .active) (sound .active)
 
   pub begins : (lent : List ℕ) → Going g c lent c lent 0 1
   unfolding joinTo
@@ -104,10 +101,7 @@ module _ {c : Controller} (sound : Sound c) (g : Virt) where
         rows = place-skip (rowOf g c) (c .rows) (c .rows) 0 emptyRow (sound .rows-all) refl (omega arith) (sym (ap (λ (t : Turn). t .row) idle));
         queues = place-skip (queueOf g c) (c .queues) (c .queues) 0 emptyQueue (sound .queues-all) refl (omega arith) (sym (ap (λ (t : Turn). t .queue) idle));
         rest = refl;
-        count = refl;
-        written = nothing-written lent;
-        size = refl;
-        inside = omega arith;
+        front = stands-none lent;
       }
 
   module _ {lent : List ℕ} {s : Controller} {out : List ℕ} {at n : ℕ} (going : Going g c lent s out at n) (h : n < nodesMost) where
@@ -140,10 +134,7 @@ module _ {c : Controller} (sound : Sound c) (g : Virt) where
           rows = place-skip (rowOf g c) (c .rows) (s .rows) n emptyRow (sound .rows-all) (going .rows) h (sym (ap (λ (t : Turn). t .row) idle));
           queues = place-skip (queueOf g c) (c .queues) (s .queues) n emptyQueue (sound .queues-all) (going .queues) h (sym (ap (λ (t : Turn). t .queue) idle));
           rest = going .rest;
-          count = rw none (going .count);
-          written = rw none (going .written);
-          size = going .size;
-          inside = going .inside;
+          front = rw none (going .front);
         }
 
     -- ---- an active leaf has its turn
@@ -154,11 +145,11 @@ module _ {c : Controller} (sound : Sound c) (g : Virt) where
           let least : length (idsBelow g c n) ≤ sumTo (λ k. queueAt c k .len) (n - 1) = released-most (n - 1) in
           let step : sumTo (λ k. queueAt c k .len) n ≡ sumTo (λ k. queueAt c k .len) (n - 1) + queueAt c n .len = sum-step (λ k. queueAt c k .len) n (going .from) in
           let part : sumTo (λ k. queueAt c k .len) n ≤ sumTo (λ k. queueAt c k .len) leafMost = sum-part (λ k. queueAt c k .len) n leafMost (omega arith) in
-          omega (arith, going .count)
+          omega (arith, going .front .front .0)
 
       module _ {t : Bool} (test : t ≡ has (s .active) n) (on : t ≡ true) {share : ℕ} (same : share ≡ shareAt s n) where
         pub leaf-fits : g .0 ≤ gainMost
-            → Fit share (rowAt s n) (read s n) × (g .0 ≤ gainMost) × (read s n .len ≤ length (take (length out - at) (drop at out)))
+            → Fit share (rowAt s n) (read s n) × (g .0 ≤ gainMost) × (read s n .len ≤ length (restOf out at))
         leaf-fits small = (
           rw (same, share-here, row-here, queue-here)
               (record {
@@ -171,19 +162,20 @@ module _ {c : Controller} (sound : Sound c) (g : Virt) where
                 waiting = sound .queue n;
               }),
           small,
-          rw (rest-length (idsBelow g c n) lent out at (going .written) (going .count), queue-here) (omega (arith, at-least)),
+          rw (stands-rest (going .front), queue-here) (omega (arith, at-least)),
         )
 
         module _ {r : Turned} {part : List ℕ} (er : r ≡ turned (turn g share (rowAt s n) (read s n)))
-            (ep : part ≡ lentAfter (turn g share (rowAt s n) (read s n) .ids) (take (length out - at) (drop at out))) where
+            (ep : part ≡ lentAfter (turn g share (rowAt s n) (read s n) .ids) (restOf out at)) where
           its-turn : turn g share (rowAt s n) (read s n) ≡ turnOf g c n
           its-turn = rw (same, share-here, row-here, queue-here) (sym (active-turn g c n (told test on)))
 
           turned-same : r ≡ turned (turnOf g c n)
           turned-same = er ∙ ap turned its-turn
 
-          count-next : at + r .count ≡ length (idsBelow g c (n + 1))
-          count-next = rw (next-ids, length-append, turned-same, going .count)
+          its-ids : Written (idsOf g c n) (r .count) (restOf out at) part
+          unfolding lentAfter
+          its-ids = (ap (λ (t : Turned). t .count) turned-same, ep ∙ ap (λ (t : Turn). lentAfter (t .ids) (restOf out at)) its-turn)
 
           released-fits : r .count ≤ queueAt c n .len
           released-fits = rw turned-same (omega (arith, leaf-tick sound g n .left))
@@ -191,24 +183,15 @@ module _ {c : Controller} (sound : Sound c) (g : Virt) where
           pub count-fits : at + r .count ≤ length lent
           count-fits = omega (arith, at-least, released-fits)
 
-          written-next : take at out ++ (part ++ drop (length out - at) (drop at out)) ≡ lentAfter (idsBelow g c (n + 1)) lent
-          written-next =
-              rw next-ids
-              (lent-on (idsBelow g c n) lent out at (going .written) (going .count) (idsOf g c n) part
-              (ep ∙ ap (λ (t : Turn). lentAfter (t .ids) (take (length out - at) (drop at out))) its-turn))
-
           pub active-turns : Going g c lent (withLeaves (set (s .rows) n (r .row)) (set (s .queues) n (r .queue)) s)
-              (take at out ++ (part ++ drop (length out - at) (drop at out))) (at + r .count) (n + 1)
+              (putBack out at part) (at + r .count) (n + 1)
           active-turns = record {
             from = omega arith;
             upto = omega arith;
             rows = place-put (rowOf g c) (c .rows) (s .rows) n emptyRow (sound .rows-all) (going .rows) h (r .row) (ap (λ (t : Turned). t .row) turned-same);
             queues = place-put (queueOf g c) (c .queues) (s .queues) n emptyQueue (sound .queues-all) (going .queues) h (r .queue) (ap (λ (t : Turned). t .queue) turned-same);
             rest = ap (λ (k : Controller). withLeaves (set (s .rows) n (r .row)) (set (s .queues) n (r .queue)) k) (going .rest);
-            count = count-next;
-            written = written-next;
-            size = ap length written-next ∙ lent-length (idsBelow g c (n + 1)) lent (omega (arith, count-next, count-fits));
-            inside = count-fits;
+            front = rw next-ids (stands-more (going .front) (idsOf g c n) part (r .count) its-ids count-fits);
           }
 
 -- ---- the end
@@ -240,12 +223,12 @@ module _ {c : Controller} (sound : Sound c) {g : Virt} (time : ℕ) (gain : g �
   pub ends : {k : Clock} → k ≡ advanced time (s .clock)
       → (_≡_ {A = Ticked} (record { answer = Released at; state = withClock k s }) (tickedBy Accepted time c))
       × (out ≡ lentBy Accepted time lent c)
-  unfolding tickedBy lentBy tick
+  unfolding tickedBy lentBy lentAfter tick
   ends {k} ek =
       let rows : s .rows ≡ table (rowOf (growth (c .clock) time) c) = rw gain at (places-done (rowOf g c) (c .rows) (s .rows) n (sound .rows-all) (going .rows) all) in
       let queues : s .queues ≡ table (queueOf (growth (c .clock) time) c) = rw gain at (places-done (queueOf g c) (c .queues) (s .queues) n (sound .queues-all) (going .queues) all) in
       let clock : k ≡ advanced time (c .clock) = ek ∙ ap (advanced time) clock-stays in (
         ap (λ (x : Controller). record { answer = Released at; state = withClock k x }) (going .rest)
-            ∙ rw (rows, queues, clock, going .count, all-ids),
-        going .written ∙ ap (λ (ids : List ℕ). lentAfter ids lent) all-ids,
+            ∙ rw (rows, queues, clock, going .front .front .0, all-ids),
+        going .front .front .1 ∙ ap (λ (ids : List ℕ). lentAfter ids lent) all-ids,
       )

@@ -1,4 +1,3 @@
 pub mod Clocks
-pub mod Lent
 pub mod Going
 pub mod Answers

@@ -1,19 +1,15 @@
 -- Laws of bytes laid into a buffer: its length stays, one store lays one byte, and what is laid next to it goes on from there.
 -- Assumes nothing.
 use mathlib.Core.Path.{_≡_, sym, _∙_}
-use mathlib.Core.List.{List, [], _∷_, _++_, append-nil, append-assoc}
+use mathlib.Core.List.{List, [], _∷_, _++_, append-assoc}
 use Prim.Native.Nat.{ℕ, _+_, _/_, _%_, _^_, _≤_, _<_}
 use native.Mathlib.Nat.{add-zero, add-assoc, pow-suc, div-div-eq-div-mul}
 use native.Mathlib.Numerals.{add-one}
 use native.Mathlib.Omega.{arith}
 use lib.ListN.{length, take, drop, set, take-append-drop, length-append, length-take, length-drop}
 use lib.Seq.{drop-append-add, drop-drop, set-split, take-at}
-use Rattle.rules.specs.Trace.{bytesOf, layout, total, bodyOf, kindOf, fieldsOf}
+use Rattle.rules.specs.Trace.{bytesOf, total, bodyOf}
 use Rattle.rules.specs.Laws.Trace.{bytes-snoc, length-bytes}
-use Rattle.rules.specs.declared.cost.Rates.{Rates}
-use Rattle.rules.specs.declared.cost.Bio.{Bio}
-use Rattle.rules.specs.declared.trace.Record.{Record}
-use Rattle.rules.specs.declared.trace.Record.the-variants.{Node, Model, Bio as BioOf}
 use Rattle.trace.specs.Laid.{laid}
 
 pub laid-none : (at : ℕ) (l : List ℕ) → laid [] at l ≡ l
@@ -55,7 +51,7 @@ pub next-quotient : (n i : ℕ) → n / 256 ^ i / 256 ≡ n / 256 ^ (i + 1)
 next-quotient n i = rw (add-one, pow-suc, div-div-eq-div-mul)
 
 -- ---- the numbers of a body, put one behind the other
-abbrev pub putAll : List ℕ → List ℕ → ℕ → List ℕ → List ℕ
+abbrev putAll : List ℕ → List ℕ → ℕ → List ℕ → List ℕ
 putAll [] fs at l = l
 putAll (w ∷ ws) [] at l = l
 putAll (w ∷ ws) (f ∷ fs) at l = putAll ws fs (at + w) (laid (bytesOf w f) at l)
@@ -75,35 +71,3 @@ body-laid (w ∷ ws) (f ∷ fs) at l h =
     let long : length (laid (bytesOf w f) at l) ≡ length l = laid-length (bytesOf w f) at l (omega arith) in
     let others : length (bodyOf ws fs) ≤ total ws = length-body-le ws fs in
     body-laid ws fs (at + w) (laid (bytesOf w f) at l) (omega arith) ∙ (rw first at (laid-on (bytesOf w f) (bodyOf ws fs) at l (omega arith)))
-
-module _ (l : List ℕ) where
-  pub rates-laid : (r : Rates) → 1 + total (layout 2) ≤ length l → (l₁ l₂ l₃ l₄ l₅ l₆ : List ℕ)
-      → l₁ ≡ laid (bytesOf 8 (r .rbps)) 1 l → l₂ ≡ laid (bytesOf 8 (r .rseqiops)) 9 l₁ → l₃ ≡ laid (bytesOf 8 (r .rrandiops)) 17 l₂
-      → l₄ ≡ laid (bytesOf 8 (r .wbps)) 25 l₃ → l₅ ≡ laid (bytesOf 8 (r .wseqiops)) 33 l₄ → l₆ ≡ laid (bytesOf 8 (r .wrandiops)) 41 l₅
-      → l₆ ≡ laid (bodyOf (layout 2) (fieldsOf (Model r))) 1 l
-  unfolding layout fieldsOf
-  rates-laid r h l₁ l₂ l₃ l₄ l₅ l₆ e₁ e₂ e₃ e₄ e₅ e₆ = rw (e₆, e₅, e₄, e₃, e₂, e₁) (body-laid (layout 2) (fieldsOf (Model r)) 1 l h)
-
-  pub bio-laid : (b : Bio) → 1 + total (layout 4) ≤ length l → (l₁ l₂ l₃ l₄ l₅ : List ℕ)
-      → l₁ ≡ laid (bytesOf 1 (b .node)) 1 l → l₂ ≡ laid (bytesOf 1 (b .flags)) 2 l₁ → l₃ ≡ laid (bytesOf 4 (b .id)) 3 l₂
-      → l₄ ≡ laid (bytesOf 8 (b .sector)) 7 l₃ → l₅ ≡ laid (bytesOf 4 (b .bytes)) 15 l₄
-      → l₅ ≡ laid (bodyOf (layout 4) (fieldsOf (BioOf b))) 1 l
-  unfolding layout fieldsOf
-  bio-laid b h l₁ l₂ l₃ l₄ l₅ e₁ e₂ e₃ e₄ e₅ = rw (e₅, e₄, e₃, e₂, e₁) (body-laid (layout 4) (fieldsOf (BioOf b)) 1 l h)
-
-  pub node-laid : (p w : ℕ) → 1 + total (layout 1) ≤ length l → (l₁ l₂ : List ℕ)
-      → l₁ ≡ laid (bytesOf 1 p) 1 l → l₂ ≡ laid (bytesOf 2 w) 2 l₁ → l₂ ≡ laid (bodyOf (layout 1) (fieldsOf (Node p w))) 1 l
-  unfolding layout fieldsOf
-  node-laid p w h l₁ l₂ e₁ e₂ = rw (e₂, e₁) (body-laid (layout 1) (fieldsOf (Node p w)) 1 l h)
-
-  pub one-laid : (w f : ℕ) (l₁ : List ℕ) → l₁ ≡ laid (bytesOf w f) 1 l → l₁ ≡ laid (bodyOf (w ∷ []) (f ∷ [])) 1 l
-  unfolding bodyOf
-  one-laid w f l₁ e = rw append-nil e
-
--- what is shown of a record's variant holds of the record
-pub room-of : (r q : Record) (n : ℕ) → r ≡ q → 1 + total (layout (kindOf r)) ≤ n → 1 + total (layout (kindOf q)) ≤ n
-room-of r q n e h = rw e at h
-
-pub laid-of : (r q : Record) (l l₁ : List ℕ) → r ≡ q → l₁ ≡ laid (bodyOf (layout (kindOf q)) (fieldsOf q)) 1 l
-    → l₁ ≡ laid (bodyOf (layout (kindOf r)) (fieldsOf r)) 1 l
-laid-of r q l l₁ e h = rw e h

@@ -8,8 +8,14 @@ use native.Mathlib.Nat.{zero-add}
 use native.Mathlib.Omega.{arith}
 use lib.Dec.{lit≤}
 use lib.ListN.{length, drop, set, length-set}
+use mir.Val.{Val}
+use denote.Laws.{Is}
+use denote.Enum.Declared.{row}
+use denote.Enum.Laws.{owed}
 use borrow.Author.Tests.{lt-ltb, le-ltb}
-use Rattle.rules.specs.Trace.{bytesOf, isKind, layout, total, kindOf, fieldsOf, bodyOf, recordBytes, writing, writtenTo}
+use Rattle.rules.proofs.trace.Record.{the-type}
+use Rattle.rules.proofs.trace.Record.Laws.{the-laws}
+use Rattle.rules.specs.Trace.{bytesOf, isKind, layout, total, kindOf, fieldsOf, bodyOf, recordBytes, Fits, writing, writtenTo}
 use Rattle.rules.specs.Laws.Trace.{kinds}
 use Rattle.rules.specs.declared.refusals.Refusal.the-variants.{ShortBuffer}
 use Rattle.rules.specs.declared.trace.Record.{Record}
@@ -18,11 +24,22 @@ use Rattle.rules.specs.declared.trace.Write.the-variants.{Wrote, Refused}
 use Rattle.trace.specs.Laid.{laid}
 use Rattle.trace.proofs.Laid.{laid-one, laid-on, laid-length, length-body-le}
 
+-- a record's numbers are of the types of its fields, which are as wide as its layout says
+pub numbers-fit : (r : Record) (vs : List Val) → Is (row the-type) r vs → Fits r
+unfolding Fits layout kindOf fieldsOf
+numbers-fit (Node p w) vs is = omega (arith, owed the-type the-laws (Node p w) vs is)
+numbers-fit (Model r) vs is = omega (arith, owed the-type the-laws (Model r) vs is)
+numbers-fit (Start t) vs is = omega (arith, owed the-type the-laws (Start t) vs is)
+numbers-fit (Bio b) vs is = omega (arith, owed the-type the-laws (Bio b) vs is)
+numbers-fit (Tick t) vs is = omega (arith, owed the-type the-laws (Tick t) vs is)
+numbers-fit Plan vs is = tt
+numbers-fit (Vrate v) vs is = omega (arith, owed the-type the-laws (Vrate v) vs is)
+
 pub body-most : (kind : ℕ) → isKind kind ≡ true → total (layout kind) ≤ 48
 unfolding layout
 body-most = kinds (λ kind. total (layout kind) ≤ 48) (lit≤ tt) (lit≤ tt) (lit≤ tt) (lit≤ tt) (lit≤ tt) (lit≤ tt) (lit≤ tt)
 
-pub length-record : (r : Record) → length (recordBytes r) ≡ total (layout (kindOf r)) + 1
+length-record : (r : Record) → length (recordBytes r) ≡ total (layout (kindOf r)) + 1
 unfolding recordBytes bodyOf bytesOf layout kindOf fieldsOf
 length-record (Node p w) = refl
 length-record (Model r) = refl

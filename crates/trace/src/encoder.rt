@@ -69,9 +69,10 @@ fn put_body(r: Record, lent: &mut [u8])
     }
 }
 
-// "The writer writes any .."
+// "The writer writes any record whose numbers fit ..": that is every record, by the types of its fields. So what is
+// written reads back.
 pub fn write_to(r: Record, lent: &mut [u8]) -> Write
-    ensures { λ w. ⌜ (w ≡ writing r (now (lent .entry))) × (now (lent .exit) ≡ writtenTo r (now (lent .entry))) ⌝ }
+    ensures { λ w. ⌜ (w ≡ writing r (now (lent .entry))) × (now (lent .exit) ≡ writtenTo r (now (lent .entry))) × Fits r ⌝ }
 {
     let kind = layout::kind_of(r);
     let len = layout::body_len(kind) + 1;
@@ -81,20 +82,4 @@ pub fn write_to(r: Record, lent: &mut [u8]) -> Write
     lent[0] = kind;
     put_body(r, lent);
     Write::Wrote(len)
-}
-
-// "any record whose numbers ..": that is every record, by the types of its fields. It does nothing; a
-// caller learns from it that what it writes reads back.
-pub fn fits(r: Record)
-    ensures { λ _. ⌜ Fits r ⌝ }
-{
-    match r {
-        Record::Node(parent, weight) => {}
-        Record::Model(rates) => {}
-        Record::Start(time) => {}
-        Record::Bio(bio) => {}
-        Record::Tick(time) => {}
-        Record::Plan => {}
-        Record::Vrate(vrate) => {}
-    }
 }

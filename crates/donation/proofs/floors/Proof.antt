@@ -4,7 +4,7 @@ use mathlib.Core.Path.{_≡_, refl}
 use Prim.Native.Nat.{_-_, _≤_, _<_}
 use native.Mathlib.Omega.{arith}
 use borrow.Author.Needs.{needs}
-use lib.ListN.{length, replicate}
+use lib.ListN.{replicate}
 use Rattle.rules.specs.Words.{table}
 use Rattle.rules.specs.Plan.{shareGiven}
 use Rattle.rules.specs.Laws.Sweeps.{swept, place-put, places-done}
@@ -14,13 +14,13 @@ use Rattle.donation.proofs.floors.Tie as tie
 
 abbrev Inv-loop : tie.InvT-loop
 Inv-loop active donors left kept bases targets shares₀ n₀ shares n =
-    (shares ≡ swept (table (shareGiven active donors left kept 0 bases targets)) shares₀ n) × (length shares₀ ≡ 64) × (n ≤ 64)
+    (shares ≡ swept (table (shareGiven active donors left kept 0 bases targets)) shares₀ n) × (n ≤ 64)
 
 abbrev μ-loop : tie.MeasureT-loop
 μ-loop active donors left kept bases targets shares₀ n₀ shares n = 64 - n
 
 loop-holds : tie.Need-loop-holds Inv-loop μ-loop
-loop-holds c = (refl, refl, omega arith)
+loop-holds c = search needs
 
 has-requires : tie.Need-has-requires Inv-loop μ-loop
 has-requires c κs = search needs
@@ -72,7 +72,6 @@ loop-again c =
           (share-floored (a .active) (a .donors) (a .left) (a .kept) (a .bases .now) (a .targets .now) (at .loop .n) (c .floored .result)
           (c .before .before .before .before .has .result) (c .before .before .before .has2 .result) (c .before .before .before .before .has .ensures)
           (c .before .before .before .has2 .ensures) (c .floored .ensures)),
-      refl,
       omega arith,
     )
 

@@ -8,13 +8,13 @@ use lib.ListN.{length, set, length-append}
 use borrow.Author.Needs.{needs}
 use denote.Ref.{now}
 use Rattle.rules.specs.Replay.{digits}
-use Rattle.rules.specs.Laws.Buffers.{Written, Stands, stands-kept, stands-in, stands-byte, stands-first}
+use Rattle.rules.specs.Laws.Buffers.{Written, Stands, stands-in, stands-byte, stands-first}
 use Rattle.rules.specs.Laws.Lines.{digits-short, digits-long}
 use borrow.Fn.Kinds.{In}
 use borrow.Fn.PlainCycle.{Measures, is, falls, and}
-use Rattle.lines.proofs.put_digits.Reads as put-digits
-use Rattle.lines.proofs.put_digits.Kinds as put-digits-kinds
-use Rattle.lines.proofs.+put_digits.Lts-put_digits as put-digits-lts
+use Rattle.lines.proofs.put_digits.Reads as reads
+use Rattle.lines.proofs.put_digits.Kinds as kinds
+use Rattle.lines.proofs.+put_digits.Lts-put_digits as lts
 use Rattle.lines.proofs.+put_digits.{statement}
 use Rattle.lines.proofs.+put_digits.Tie.{close}
 
@@ -45,139 +45,68 @@ module _ (n : ℕ) (o₀ : List ℕ) (room : length (digits n) ≤ length o₀) 
       long : Stands (digits n) o₀ (set o r (48 + n % 10)) (r + 1)
       long = rw (digits-long n h fits) (stands-byte tenth more (48 + n % 10))
 
-abbrev μ-put-digits : Measures 1 put-digits-kinds.ps ℕ
-μ-put-digits κs a = a .0
+abbrev μ : Measures 1 kinds.ps ℕ
+μ κs a = a .0
 
-abbrev put-digits-at : ℕ → In 1 put-digits-kinds.ps
-put-digits-at t =
-    and 1 put-digits-kinds.ps (is 1 put-digits-kinds.ps μ-put-digits t) put-digits.Pre
+abbrev here : ℕ → In 1 kinds.ps
+here t = and 1 kinds.ps (is 1 kinds.ps μ t) reads.Pre
 
-abbrev put-digits-below : ℕ → In 1 put-digits-kinds.ps
-put-digits-below t =
-    and 1 put-digits-kinds.ps (falls 1 put-digits-kinds.ps _<_ μ-put-digits t) put-digits.Pre
+abbrev less : ℕ → In 1 kinds.ps
+less t = and 1 kinds.ps (falls 1 kinds.ps _<_ μ t) reads.Pre
 
-put-digits-add-out :
-    (t : ℕ) →
-    put-digits-lts.Need-add-out
-    (put-digits-below t, put-digits.Post)
-    (put-digits-at t)
-    put-digits.Post
-put-digits-add-out t c = omega arith
+module _ (t : ℕ) where
+  add-out : lts.Need-add-out (less t, reads.Post) (here t) reads.Post
+  add-out c = search needs
 
-put-digits-cast-out :
-    (t : ℕ) →
-    put-digits-lts.Need-cast-out
-    (put-digits-below t, put-digits.Post)
-    (put-digits-at t)
-    put-digits.Post
-put-digits-cast-out t c = omega arith
+  cast-out : lts.Need-cast-out (less t, reads.Post) (here t) reads.Post
+  cast-out c = search needs
 
-put-digits-slice-write-out : (t : ℕ) → put-digits-lts.Need-slice-write-out (
-  put-digits-below t,
-  put-digits.Post,
-) (put-digits-at t) put-digits.Post
-put-digits-slice-write-out t c =
-    let start = c .before .before in
-    some (start .args .n) (now (start .args .out)) (start .pre .1) (omega (arith, c .if1 .taken))
+  slice-write-out : lts.Need-slice-write-out (less t, reads.Post) (here t) reads.Post
+  slice-write-out c =
+      let start = c .before .before in
+      some (start .args .n) (now (start .args .out)) (start .pre .1) (omega (arith, c .if1 .taken))
 
-put-digits-same-length : (t : ℕ) → put-digits-lts.Need-same-length (
-  put-digits-below t,
-  put-digits.Post,
-) (put-digits-at t) put-digits.Post
-put-digits-same-length t c = search needs
+  same-length : lts.Need-same-length (less t, reads.Post) (here t) reads.Post
+  same-length c = search needs
 
-put-digits-returns :
-    (t : ℕ) →
-    put-digits-lts.Need-returns
-    (put-digits-below t, put-digits.Post)
-    (put-digits-at t)
-    put-digits.Post
-put-digits-returns t c =
-    let start = c .before .before in
-    short (start .args .n) (now (start .args .out)) (start .pre .1) (omega (arith, c .if1 .taken)) .front
+  returns : lts.Need-returns (less t, reads.Post) (here t) reads.Post
+  returns c =
+      let start = c .before .before in
+      short (start .args .n) (now (start .args .out)) (start .pre .1) (omega (arith, c .if1 .taken)) .front
 
-put-digits-put-digits-requires : (t : ℕ) → put-digits-lts.Need-put-digits-requires (
-  put-digits-below t,
-  put-digits.Post,
-) (put-digits-at t) put-digits.Post
-put-digits-put-digits-requires t c κs =
-    let start = c .before .before .before in (
-      omega (arith, start .pre .0, c .before .if1 .left),
-      tenth-room (start .args .n) (now (start .args .out)) (start .pre .1) (omega (arith, c .before .if1 .left)) (start .fits .n .fits),
-    )
+  put-digits-requires : lts.Need-put-digits-requires (less t, reads.Post) (here t) reads.Post
+  put-digits-requires c κs =
+      let start = c .before .before .before in (
+        omega (arith, start .pre .0, c .before .if1 .left),
+        tenth-room (start .args .n) (now (start .args .out)) (start .pre .1) (omega (arith, c .before .if1 .left)) (start .fits .n .fits),
+      )
 
-put-digits-add-out-2 : (t : ℕ) → put-digits-lts.Need-add-out-2 (
-  put-digits-below t,
-  put-digits.Post,
-) (put-digits-at t) put-digits.Post
-put-digits-add-out-2 t c = omega arith
+  add-out-2 : lts.Need-add-out-2 (less t, reads.Post) (here t) reads.Post
+  add-out-2 c = search needs
 
-put-digits-cast-out-2 : (t : ℕ) → put-digits-lts.Need-cast-out-2 (
-  put-digits-below t,
-  put-digits.Post,
-) (put-digits-at t) put-digits.Post
-put-digits-cast-out-2 t c = omega arith
+  cast-out-2 : lts.Need-cast-out-2 (less t, reads.Post) (here t) reads.Post
+  cast-out-2 c = search needs
 
-put-digits-slice-write-out-2 : (t : ℕ) → put-digits-lts.Need-slice-write-out-2 (
-  put-digits-below t,
-  put-digits.Post,
-) (put-digits-at t) put-digits.Post
-put-digits-slice-write-out-2 t c =
-    let called = c .before .before in
-    let start = called .before .before .before .before in
-    last-in (start .args .n) (now (start .args .out)) (start .pre .1) (omega (arith, called .before .before .if1 .left)) (start .fits .n .fits) (called .put-digits .result)
-    (called .put-digits .last .1 .0) (called .put-digits .ensures)
+  slice-write-out-2 : lts.Need-slice-write-out-2 (less t, reads.Post) (here t) reads.Post
+  slice-write-out-2 c =
+      let called = c .before .before in
+      let start = called .before .before .before .before in
+      last-in (start .args .n) (now (start .args .out)) (start .pre .1) (omega (arith, called .before .before .if1 .left)) (start .fits .n .fits) (called .put-digits .result)
+      (called .put-digits .last .1 .0) (called .put-digits .ensures)
 
-put-digits-add-result : (t : ℕ) → put-digits-lts.Need-add-result (
-  put-digits-below t,
-  put-digits.Post,
-) (put-digits-at t) put-digits.Post
-put-digits-add-result t c =
-    let called = c .before .before in
-    let start = called .before .before .before .before in
-    omega (
-      arith,
+  add-result : lts.Need-add-result (less t, reads.Post) (here t) reads.Post
+  add-result c = omega (arith, slice-write-out-2 c, c .before .before .before .before .before .before .good .1 .0 .0)
+
+  same-length-2 : lts.Need-same-length-2 (less t, reads.Post) (here t) reads.Post
+  same-length-2 c = search needs
+
+  returns-2 : lts.Need-returns-2 (less t, reads.Post) (here t) reads.Post
+  returns-2 c =
+      let called = c .before .before in
+      let start = called .before .before .before .before in
       long (start .args .n) (now (start .args .out)) (start .pre .1) (omega (arith, called .before .before .if1 .left)) (start .fits .n .fits) (called .put-digits .result)
-          (called .put-digits .last .1 .0) (called .put-digits .ensures) .within,
-      start .good .1 .0 .0,
-    )
-
-put-digits-same-length-2 : (t : ℕ) → put-digits-lts.Need-same-length-2 (
-  put-digits-below t,
-  put-digits.Post,
-) (put-digits-at t) put-digits.Post
-put-digits-same-length-2 t c =
-    let called = c .before .before in
-    let start = called .before .before .before .before in
-    stands-kept (long (start .args .n) (now (start .args .out)) (start .pre .1) (omega (arith, called .before .before .if1 .left)) (start .fits .n .fits) (called .put-digits .result)
-    (called .put-digits .last .1 .0) (called .put-digits .ensures))
-
-put-digits-returns-2 : (t : ℕ) → put-digits-lts.Need-returns-2 (
-  put-digits-below t,
-  put-digits.Post,
-) (put-digits-at t) put-digits.Post
-put-digits-returns-2 t c =
-    let called = c .before .before in
-    let start = called .before .before .before .before in
-    long (start .args .n) (now (start .args .out)) (start .pre .1) (omega (arith, called .before .before .if1 .left)) (start .fits .n .fits) (called .put-digits .result)
-    (called .put-digits .last .1 .0) (called .put-digits .ensures) .front
+      (called .put-digits .last .1 .0) (called .put-digits .ensures) .front
 
 pub +put-digits-spec : {M : Type 1} → statement M
-+put-digits-spec = close μ-put-digits λ t. put-digits-lts.spec (
-  put-digits-below t,
-  put-digits.Post,
-)
-    (put-digits-at t)
-    put-digits.Post
-    (put-digits-add-out t)
-    (put-digits-cast-out t)
-    (put-digits-slice-write-out t)
-    (put-digits-same-length t)
-    (put-digits-returns t)
-    (put-digits-put-digits-requires t)
-    (put-digits-add-out-2 t)
-    (put-digits-cast-out-2 t)
-    (put-digits-slice-write-out-2 t)
-    (put-digits-add-result t)
-    (put-digits-same-length-2 t)
-    (put-digits-returns-2 t)
++put-digits-spec = close μ λ t. lts.spec (less t, reads.Post) (here t) reads.Post (add-out t) (cast-out t) (slice-write-out t) (same-length t) (returns t)
+    (put-digits-requires t) (add-out-2 t) (cast-out-2 t) (slice-write-out-2 t) (add-result t) (same-length-2 t) (returns-2 t)

@@ -64,11 +64,7 @@ put-id-requires c κs =
     asked (head .loop .inv) (head .before .before .before .pre .1) (c .before .before .loop-test .taken)
 
 add-at : tie.Need-add-at Inv-loop μ-loop
-add-at c =
-    let called = c .before .before in
-    let turned = called .before .before .before in
-    let start = turned .before .before .before .before in
-    omega (arith, turned .before .loop .inv .few, called .put-id .ensures .1, turned .loop-test .taken, start .pre .1, start .good .1 .1 .0 .0)
+add-at c = search needs
 
 add-i : tie.Need-add-i Inv-loop μ-loop
 add-i c = search needs

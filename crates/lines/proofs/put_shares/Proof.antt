@@ -71,10 +71,7 @@ put-leaf-requires c κs =
     (omega (arith, turned .loop-test .taken), asked (head .loop .inv) (head .before .before .pre) (omega (arith, turned .loop-test .taken)))
 
 add-at : tie.Need-add-at Inv-loop μ-loop
-add-at c =
-    let called = c .before .before in
-    let turned = called .before .before .before in
-    omega (arith, turned .before .loop .inv .few, called .put-leaf .ensures .1, turned .loop-test .taken)
+add-at c = search needs
 
 add-n : tie.Need-add-n Inv-loop μ-loop
 add-n c = search needs

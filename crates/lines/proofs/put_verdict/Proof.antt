@@ -1,6 +1,5 @@
 -- `lines::put_verdict` meets its contract: nothing is written of what was accepted.
 -- Assumes nothing.
-use mathlib.Core.Path.{refl}
 use borrow.Author.Needs.{needs}
 use Rattle.rules.specs.Replay.{verdictLines}
 use Rattle.lines.proofs.put_verdict.Statement.{statement}
@@ -17,7 +16,7 @@ put-refusal-requires c κs = search needs
 
 returns : tie.Need-returns
 unfolding verdictLines
-returns c = rw (c .enum-told .given .1) (refl, refl)
+returns c = search needs
 
 same-length : tie.Need-same-length
 same-length c = search needs

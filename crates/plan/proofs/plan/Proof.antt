@@ -1,16 +1,18 @@
 -- `plan` meets its contract: its steps are those of the rules, and the invariant meets what each asks.
 -- Assumes nothing.
-use mathlib.Core.Path.{_≡_, refl}
+use mathlib.Core.Path.{_≡_, refl, ap}
 use Prim.Native.Nat.{_-_, _≤_, _<_}
 use native.Mathlib.Omega.{arith}
 use lib.ListN.{replicate}
 use borrow.Author.Needs.{needs}
 use Rattle.rules.specs.Words.{table}
 use Rattle.rules.specs.Units.{abs}
-use Rattle.rules.specs.Budget.{rowAt, queueAt}
+use Rattle.rules.specs.Budget.{rowAt, queueAt, emptyQueue}
 use Rattle.rules.specs.Plan.{quietIn, activeAfter, donorsIn}
+use Rattle.rules.specs.Laws.Tables.{getD-inside}
 use Rattle.rules.specs.Laws.Sweeps.{swept, place-put, places-done}
-use Rattle.plan.proofs.Turns.{waiting-at}
+use Rattle.rules.specs.declared.budget.Queue.{Queue}
+use Rattle.leaf.specs.Alone.{counted}
 use Rattle.plan.proofs.Steps.{Usages, Waiting, used-little, quiet-by-usages, active-by-waiting, targets-by-usages, donors-by-waiting, still-within, ready, refused, accepted}
 use Rattle.plan.proofs.plan.Statement.{statement}
 use Rattle.plan.proofs.plan.Tie as tie
@@ -26,8 +28,8 @@ abbrev μ-loop : tie.MeasureT-loop
 abbrev start : tie.After-loop Inv-loop μ-loop → tie.Start Inv-loop μ-loop
 start c = c .before .before .before .before .before .before .before
 
-some : (c : tie.After-loop Inv-loop μ-loop) → 0 < start c .args .t1 .clock .since .0
-some c = omega (arith, c .before .before .before .if1 .left)
+passed : (c : tie.After-loop Inv-loop μ-loop) → 0 < start c .args .t1 .clock .since .0
+passed c = omega (arith, c .before .before .before .if1 .left)
 
 usages-read : (c : tie.After-loop Inv-loop μ-loop) → Usages (start c .args .t1) (c .before .loop .usages)
 usages-read c =
@@ -43,7 +45,7 @@ returns : tie.Need-returns Inv-loop μ-loop
 returns c = refused (c .before .before .before .before .args .t1) (c .if1 .taken)
 
 loop-holds : tie.Need-loop-holds Inv-loop μ-loop
-loop-holds c = (refl, refl, omega arith)
+loop-holds c = search needs
 
 mul-row : tie.Need-mul-row Inv-loop μ-loop
 mul-row c = search needs
@@ -75,11 +77,12 @@ loop-less c = search needs
 loop-again : tie.Need-loop-again Inv-loop μ-loop
 loop-again c =
     let at = c .before .before .before .before in
-    let s = at .before .before .before .before .before .before .args .t1 in
+    let began = at .before .before .before .before .before .before in
+    let s = began .args .t1 in
     let node : at .loop .n < 64 = search needs in (
       place-put (λ k. rowAt s k .usage) (replicate 64 (abs 0)) (at .loop .usages) (at .loop .n) (abs 0) refl (at .loop .inv .0) node _ refl,
       place-put (λ k. queueAt s k .len) (replicate 64 0) (at .loop .waiting) (at .loop .n) 0 refl (at .loop .inv .1) node _
-          (waiting-at (s .queues) (at .loop .n)),
+          (ap (λ (q : Queue). q .len) (getD-inside (s .queues) (at .loop .n) (counted 0) emptyQueue (rw (began .pre .queues-all) node))),
       omega arith,
     )
 
@@ -112,7 +115,7 @@ base-shares-requires c κs =
     (sound .tree, still-within sound (c .before .before .is-quiet .result) (c .before .active-after .result) (active-is (c .before)))
 
 targets-in-requires : tie.Need-targets-in-requires Inv-loop μ-loop
-targets-in-requires c κs = let read = c .before .before .before .before .before in (some read, start read .pre .clock .since-most)
+targets-in-requires c κs = search needs
 
 donors-in-requires : tie.Need-donors-in-requires Inv-loop μ-loop
 donors-in-requires c κs = search needs
@@ -133,10 +136,8 @@ donors-are c =
 shared-requires : tie.Need-shared-requires Inv-loop μ-loop
 shared-requires c κs =
     let judged = c .before .before .before .before .before .before .before in
-    let met =
     ready (start (judged .before .before .before) .pre) (judged .before .is-quiet .result) (c .before .before .before .before .targets-in .result) (active-is judged)
-    (c .before .before .before .before .before .base-shares .ensures) (donors-are (c .before)) (c .closed .ensures) in
-    (met .no-root, met .no-root-gives, met .donation, met .worth)
+    (c .before .before .before .before .before .base-shares .ensures) (donors-are (c .before)) (c .closed .ensures)
 
 returns-2 : tie.Need-returns-2 Inv-loop μ-loop
 returns-2 c =
@@ -146,7 +147,7 @@ returns-2 c =
     let s = start read .args .t1 in
     accepted s (quiet-is (judged .before)) (active-is judged) (closing .before .before .before .before .before .base-shares .ensures)
     (targets-by-usages s (usages-read read) (closing .before .before .before .before .targets-in .ensures)) (donors-are (closing .before)) (closing .closed .ensures) (c .shared .ensures)
-    (some read)
+    (passed read)
 
 pub plan-spec : {M : Type 1} → statement M
 plan-spec =

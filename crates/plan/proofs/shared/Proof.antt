@@ -28,7 +28,7 @@ is-donation-requires c κs = search needs
 donated-requires : tie.Need-donated-requires
 donated-requires c κs =
     let test = c .before .before in
-    test .before .before .pre .2 (sym (test .before .is-donation .ensures) ∙ test .if1 .taken)
+    test .before .before .pre .donation (sym (test .before .is-donation .ensures) ∙ test .if1 .taken)
 
 reshared-requires : tie.Need-reshared-requires
 reshared-requires c κs = search needs

@@ -5,7 +5,7 @@ use mathlib.Core.List.{List}
 use Prim.Native.Nat.{ℕ, _-_, _^_, _≤_, _<_}
 use native.Mathlib.Omega.{arith}
 use borrow.Author.Needs.{needs}
-use lib.ListN.{length, getD, replicate}
+use lib.ListN.{getD, replicate}
 use Rattle.rules.specs.Words.{table}
 use Rattle.rules.specs.Units.{abs}
 use Rattle.rules.specs.Plan.{targetOf}
@@ -21,13 +21,13 @@ targetAt since usages n = targetOf since (getD usages n (abs 0))
 
 abbrev Inv-loop : tie.InvT-loop
 Inv-loop since usages targets₀ n₀ targets n =
-    (targets ≡ swept (table (targetAt since usages)) targets₀ n) × (length targets₀ ≡ 64) × (n ≤ 64)
+    (targets ≡ swept (table (targetAt since usages)) targets₀ n) × (n ≤ 64)
 
 abbrev μ-loop : tie.MeasureT-loop
 μ-loop since usages targets₀ n₀ targets n = 64 - n
 
 loop-holds : tie.Need-loop-holds Inv-loop μ-loop
-loop-holds c = (refl, refl, omega arith)
+loop-holds c = search needs
 
 mul-usage : tie.Need-mul-usage Inv-loop μ-loop
 mul-usage c = search needs
@@ -65,7 +65,6 @@ loop-again c =
     let node : at .loop .n < 64 = search needs in (
       place-put (targetAt (a .since) (a .t1)) (replicate 64 0) (at .loop .targets) (at .loop .n) 0 refl (at .loop .inv .0) node (c .target-of .result)
           (c .target-of .ensures),
-      refl,
       omega arith,
     )
 

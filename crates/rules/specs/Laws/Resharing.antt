@@ -236,6 +236,15 @@ module _ {t : Tree} (sound : SoundTree t) (active : ℕ) (within : Within t acti
   base-shares-each =
       table-every (baseShare t active) 0 (λ n l. no-base-share t active n (is-false (has active n) (λ e. let k : n < nodesMost = active-node n e in omega arith)))
 
+  -- what the active leaves' base shares sum to, S in a donation
+  pub bases-sum : S active (baseShares t active) ≡ sumTo (baseShare t active) leafMost
+  unfolding sumOver
+  bases-sum = sum-cong _ _ leafMost (λ n p q. go n (has active n) refl)
+    where
+      go : (n : ℕ) (a : Bool) → has active n ≡ a → cond a (getD (baseShares t active) n 0) 0 ≡ baseShare t active n
+      go n true e = base-shares-each n
+      go n false e = sym (no-base-share t active n e)
+
   module _ (thick : isThin t ≡ false) where
     -- "base shares stand"
     pub base-shares-are-sound : SoundShares t active noNode (baseShares t active)
@@ -274,14 +283,6 @@ module _ {t : Tree} (sound : SoundTree t) (active : ℕ) (within : Within t acti
         no-less n e f =
             rw (base-shares-each n) at
             (no-taker-below-base active donors (baseShares t active) targets sub at-most (some-taker .0) (some-taker .1) (some-taker .2) (some-taker .3) pos n (active-node n e) (is-taker active donors n e f))
-
-        bases-sum : S active (baseShares t active) ≡ sumTo (baseShare t active) leafMost
-        unfolding sumOver
-        bases-sum = sum-cong _ _ leafMost (λ n p q. go n (has active n) refl)
-          where
-            go : (n : ℕ) (a : Bool) → has active n ≡ a → cond a (getD (baseShares t active) n 0) 0 ≡ baseShare t active n
-            go n true e = base-shares-each n
-            go n false e = sym (no-base-share t active n e)
 
         donated-all : length (donated active donors (baseShares t active) targets) ≡ nodesMost
         unfolding donated

@@ -190,6 +190,9 @@ childless-leaf t n p q h =
 abbrev pub Within : Tree → ℕ → Type 0
 Within t active = (n : ℕ) → has active n ≡ true → isLeaf t n ≡ true
 
+pub no-root-within : (t : Tree) (active : ℕ) → Within t active → has active 0 ≡ false
+no-root-within t active within = is-false (has active 0) (λ e. true-not-false (within 0 e) (root-no-leaf t))
+
 pub has-leaves : (t : Tree) (n : ℕ) → n < nodesMost → has (leavesOf t) n ≡ isLeaf t n
 unfolding leavesOf
 has-leaves t n l = has-setOf (isLeaf t) n l

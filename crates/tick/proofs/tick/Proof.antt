@@ -21,7 +21,7 @@ abbrev μ-loop : tie.MeasureT-loop
 μ-loop time out c waiting₀ n₀ waiting n = 64 - n
 
 verdict-requires : tie.Need-verdict-requires Inv-loop μ-loop
-verdict-requires c κs = c .before .before .pre .clock
+verdict-requires c κs = search needs
 
 enum-known-verdict : tie.Need-enum-known-verdict Inv-loop μ-loop
 enum-known-verdict c = search needs

@@ -1,7 +1,6 @@
 -- `tick::clock::verdict` meets its contract: each return is the first check that the time meets.
 -- Assumes nothing.
 use mathlib.Core.Path.{sym}
-use native.Mathlib.Omega.{arith}
 use borrow.Author.Needs.{needs}
 use Rattle.tick.specs.Clocks.{Near}
 use Rattle.tick.proofs.Clocks.{vtime-fits, earlier, too-far, clock-is-full, plan-is-due, time-passes}
@@ -15,7 +14,7 @@ returns-2 : tie.Need-returns-2
 returns-2 c = sym (too-far _ _ (c .before .before .if1 .left) (c .if2 .taken))
 
 near : (c : tie.Else2) → Near (c .before .before .before .before .args .time) (c .before .before .before .before .args .clock)
-near c = record { sound = c .before .before .before .before .pre; forward = c .before .before .if1 .left; near = omega (arith, c .before .before .if1 .left, c .if2 .left) }
+near c = search needs
 
 growth-requires : tie.Need-growth-requires
 growth-requires c κs = near c

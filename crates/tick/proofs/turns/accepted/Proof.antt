@@ -6,6 +6,7 @@ use Prim.Native.Nat.{_-_, _<_}
 use native.Mathlib.Omega.{arith}
 use borrow.Author.Needs.{needs}
 use denote.Ref.{now}
+use Rattle.rules.specs.Laws.Buffers.{stands-kept, stands-left}
 use Rattle.tick.proofs.Clocks.{grown-small}
 use Rattle.tick.proofs.Going.{Going, same-going, passing-is-near, begins, idle-passes, leaf-fits, count-fits, active-turns, clock-near, ends}
 use Rattle.tick.proofs.turns.accepted.Statement.{statement}
@@ -18,7 +19,7 @@ abbrev μ-loop : tie.MeasureT-loop
 μ-loop time out₀ c₀ gain at₀ n₀ out c at n = 64 - n
 
 growth-requires : tie.Need-growth-requires Inv-loop μ-loop
-growth-requires c κs = passing-is-near (c .before .before .pre .0) (c .before .before .pre .1)
+growth-requires c κs = search needs
 
 loop-holds : tie.Need-loop-holds Inv-loop μ-loop
 loop-holds c = begins (c .before .before .before .pre .0) (c .growth .result) (now (c .before .before .before .args .out))
@@ -51,10 +52,10 @@ mul-turn : tie.Need-mul-turn Inv-loop μ-loop
 mul-turn c = search needs
 
 sub-turn : tie.Need-sub-turn Inv-loop μ-loop
-sub-turn c = search needs
+sub-turn c = stands-left (c .before .before .before .before .before .before .before .loop .inv .front)
 
 part-turn-start : tie.Need-part-turn-start Inv-loop μ-loop
-part-turn-start c = search needs
+part-turn-start c = stands-left (c .before .before .before .before .before .before .before .loop .inv .front)
 
 part-turn-end : tie.Need-part-turn-end Inv-loop μ-loop
 part-turn-end c = search needs
@@ -98,7 +99,7 @@ add-at c =
     count-fits sound (grown .growth .result) (at .loop .inv) h (start .pre .1 .room)
     (test .before .has .ensures) (test .if1 .taken) (read .wide .ensures)
     (turned .turn .ensures .0) (turned .turn .ensures .1) in
-    record { fits = omega (arith, fits, at .loop .inv .size) }
+    record { fits = omega (arith, fits, stands-kept (at .loop .inv .front)) }
 
 add-n : tie.Need-add-n Inv-loop μ-loop
 add-n c = search needs
@@ -132,7 +133,7 @@ advanced-requires c κs =
     clock-near (start .pre .0) (start .args .time) (grown .growth .ensures) (at .loop .inv) (omega (arith, c .before .loop-test .left, at .loop .inv .upto)) (start .pre .1)
 
 same-length : tie.Need-same-length Inv-loop μ-loop
-same-length c = search needs
+same-length c = stands-kept (c .before .before .before .loop .inv .front)
 
 returns : tie.Need-returns Inv-loop μ-loop
 returns c =

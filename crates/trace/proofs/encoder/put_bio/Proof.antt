@@ -1,7 +1,8 @@
 -- `trace::encoder::put_bio` meets its contract: the five places are those of the bio's layout.
 -- Assumes nothing.
-use Rattle.trace.proofs.Laid.{bio-laid}
-use Rattle.rules.specs.Trace.{layout}
+use Rattle.trace.proofs.Laid.{body-laid}
+use Rattle.rules.specs.Trace.{layout, fieldsOf}
+use Rattle.rules.specs.declared.trace.Record.the-variants.{Bio}
 use borrow.Author.Needs.{needs}
 use Rattle.trace.proofs.encoder.put_bio.Statement.{statement}
 use Rattle.trace.proofs.encoder.put_bio.Tie as tie
@@ -42,14 +43,16 @@ same-length : tie.Need-same-length
 same-length c = search needs
 
 returns : tie.Need-returns
+unfolding layout fieldsOf
 returns c =
-    let start = c .before .before .before .before .before .before .before .before .before .before .before .before .before .before .before .before .before .before .before .before .before .before .before .before .before in
-    bio-laid (start .args .lent .now) (start .args .bio) (start .pre) _ _ _ _ _
-    (c .before .before .before .before .before .before .before .before .before .before .before .before .before .before .before .before .before .before .before .before .before .put .ensures)
-    (c .before .before .before .before .before .before .before .before .before .before .before .before .before .before .before .before .put2 .ensures)
-    (c .before .before .before .before .before .before .before .before .before .before .before .put3 .ensures)
-    (c .before .before .before .before .before .before .before .put4 .ensures)
-    (c .before .before .put5 .ensures)
+    let fifth = c .before .before in
+    let fourth = fifth .before .before .before .before .before in
+    let third = fourth .before .before .before .before in
+    let second = third .before .before .before .before .before in
+    let first = second .before .before .before .before .before in
+    let start = first .before .before .before .before in
+    rw (fifth .put5 .ensures, fourth .put4 .ensures, third .put3 .ensures, second .put2 .ensures, first .put .ensures)
+    (body-laid (layout 4) (fieldsOf (Bio (start .args .bio))) 1 (start .args .lent .now) (start .pre))
 
 pub put-bio-spec : {M : Type 1} → statement M
 put-bio-spec =

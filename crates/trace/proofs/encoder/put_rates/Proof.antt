@@ -1,7 +1,8 @@
 -- `trace::encoder::put_rates` meets its contract: the six places are those of the model's layout.
 -- Assumes nothing.
-use Rattle.trace.proofs.Laid.{rates-laid}
-use Rattle.rules.specs.Trace.{layout}
+use Rattle.trace.proofs.Laid.{body-laid}
+use Rattle.rules.specs.Trace.{layout, fieldsOf}
+use Rattle.rules.specs.declared.trace.Record.the-variants.{Model}
 use borrow.Author.Needs.{needs}
 use Rattle.trace.proofs.encoder.put_rates.Statement.{statement}
 use Rattle.trace.proofs.encoder.put_rates.Tie as tie
@@ -34,15 +35,17 @@ same-length : tie.Need-same-length
 same-length c = search needs
 
 returns : tie.Need-returns
+unfolding layout fieldsOf
 returns c =
-    let start = c .before .before .before .before .before .before .before .before .before .before .before .before .before .before .before .before .before .before .before .before .before .before .before .before .before in
-    rates-laid (start .args .lent .now) (start .args .rates) (start .pre) _ _ _ _ _ _
-    (c .before .before .before .before .before .before .before .before .before .before .before .before .before .before .before .before .before .before .before .before .before .before .put .ensures)
-    (c .before .before .before .before .before .before .before .before .before .before .before .before .before .before .before .before .before .before .put2 .ensures)
-    (c .before .before .before .before .before .before .before .before .before .before .before .before .before .before .put3 .ensures)
-    (c .before .before .before .before .before .before .before .before .before .before .put4 .ensures)
-    (c .before .before .before .before .before .before .put5 .ensures)
-    (c .before .before .put6 .ensures)
+    let sixth = c .before .before in
+    let fifth = sixth .before .before .before .before in
+    let fourth = fifth .before .before .before .before in
+    let third = fourth .before .before .before .before in
+    let second = third .before .before .before .before in
+    let first = second .before .before .before .before in
+    let start = first .before .before .before in
+    rw (sixth .put6 .ensures, fifth .put5 .ensures, fourth .put4 .ensures, third .put3 .ensures, second .put2 .ensures, first .put .ensures)
+    (body-laid (layout 2) (fieldsOf (Model (start .args .rates))) 1 (start .args .lent .now) (start .pre))
 
 pub put-rates-spec : {M : Type 1} → statement M
 put-rates-spec =

@@ -1,19 +1,14 @@
 -- `trace::encoder::write_to` meets its contract: the kind in front, the body laid behind it, or the buffer as it was.
 -- Assumes nothing.
 use mathlib.Core.Path.{_≡_}
-use Prim.Native.Nat.{ℕ, _+_}
+use Prim.Native.Nat.{_+_}
 use native.Mathlib.Omega.{arith}
 use Rattle.rules.specs.Trace.{layout, total, kindOf}
 use Rattle.rules.specs.Laws.Trace.{kind-known}
-use Rattle.rules.specs.declared.trace.Record.{Record}
-use Rattle.trace.proofs.Written.{body-most, too-short, body-room, kept, written}
+use Rattle.trace.proofs.Written.{numbers-fit, body-most, too-short, body-room, kept, written}
 use borrow.Author.Needs.{needs}
 use Rattle.trace.proofs.encoder.write_to.Statement.{statement}
 use Rattle.trace.proofs.encoder.write_to.Tie as tie
-
--- the length that the code works out is the record's
-len-of : (r : Record) (kind body : ℕ) → kind ≡ kindOf r → body ≡ total (layout kind) → body + 1 ≡ total (layout (kindOf r)) + 1
-len-of r kind body k e = rw (e, k)
 
 kind-of-requires : tie.Need-kind-of-requires
 kind-of-requires c κs = search needs
@@ -24,28 +19,39 @@ body-len-requires c κs = rw (c .kind-of .ensures) (kind-known (c .before .befor
 add-len : tie.Need-add-len
 add-len c = omega (arith, c .body-len .ensures, body-most (c .before .kind-of .result) (body-len-requires (c .before) tt))
 
+-- the length that the code works out is the record's
+len-of : (c : tie.After-body-len) → c .body-len .result + 1 ≡ total (layout (kindOf (c .before .before .before .args .r))) + 1
+len-of c = rw (c .body-len .ensures, c .before .kind-of .ensures)
+
 returns : tie.Need-returns
-returns c = too-short _ _ _ (len-of _ _ _ (c .before .before .kind-of .ensures) (c .before .body-len .ensures)) (c .if1 .taken)
+returns c =
+    let start = c .before .before .before .before in
+    let short = too-short (start .args .r) (start .args .lent .now) _ (len-of (c .before)) (c .if1 .taken) in
+    (short .0, short .1, numbers-fit _ _ (start .good .0))
 
 slice-write-lent : tie.Need-slice-write-lent
 slice-write-lent c = search needs
 
 put-body-requires : tie.Need-put-body-requires
 put-body-requires c κs =
-    let start = c .before .before .before .before .before in
-    body-room (start .args .r) (start .args .lent .now) _ (len-of _ _ _ (c .before .before .before .kind-of .ensures) (c .before .before .body-len .ensures)) (c .before .if1 .left) _ (c .before .before .before .kind-of .ensures)
+    let known = c .before .before in
+    let start = known .before .before .before in
+    body-room (start .args .r) (start .args .lent .now) _ (len-of known) (c .before .if1 .left) _ (known .before .kind-of .ensures)
 
 same-length : tie.Need-same-length
 same-length c =
-    let start = c .before .before .before .before .before .before .before .before in
-    kept (start .args .r) (start .args .lent .now) _ (len-of _ _ _ (c .before .before .before .before .before .before .kind-of .ensures) (c .before .before .before .before .before .body-len .ensures)) (c .before .before .before .before .if1 .left) _
-    (c .before .before .before .before .before .before .kind-of .ensures) _ (c .before .before .put-body .ensures)
+    let put = c .before .before in
+    let known = put .before .before .before in
+    let start = known .before .before .before in
+    kept (start .args .r) (start .args .lent .now) _ (len-of known) (put .before .before .if1 .left) _ (known .before .kind-of .ensures) _ (put .put-body .ensures)
 
 returns-2 : tie.Need-returns-2
 returns-2 c =
-    let start = c .before .before .before .before .before .before .before .before in
-    written (start .args .r) (start .args .lent .now) _ (len-of _ _ _ (c .before .before .before .before .before .before .kind-of .ensures) (c .before .before .before .before .before .body-len .ensures)) (c .before .before .before .before .if1 .left) _
-    (c .before .before .before .before .before .before .kind-of .ensures) _ (c .before .before .put-body .ensures)
+    let put = c .before .before in
+    let known = put .before .before .before in
+    let start = known .before .before .before in
+    let all = written (start .args .r) (start .args .lent .now) _ (len-of known) (put .before .before .if1 .left) _ (known .before .kind-of .ensures) _ (put .put-body .ensures) in
+    (all .0, all .1, numbers-fit _ _ (start .good .0))
 
 pub write-to-spec : {M : Type 1} → statement M
 write-to-spec =
