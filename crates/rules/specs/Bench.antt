@@ -210,6 +210,10 @@ gives n ks = B 0 (verdictNumber (firstOf ks)) n
 abbrev chain : ℕ → Tree
 chain n = tree (n + 1) (tableFrom (λ i. i) 0 n) (replicate n 1)
 
+-- a tree of so many leaves below the root
+abbrev star : ℕ → Tree
+star n = tree (n + 1) (replicate n 0) (replicate n 1)
+
 -- a model in which a small read costs so much
 abbrev dear : ℕ → Model
 dear cost =
@@ -246,6 +250,10 @@ behind9 budget = putLeaf 1 (saved budget) (holding 1) (state9 budget)
 abbrev both9 : Controller
 both9 = putLeaf 2 (saved 0) (holding 2) (behind9 0)
 
+-- the same leaves while the first is a donor
+abbrev donating9 : Controller
+donating9 = reshared (leavesOf tree5) 2 (baseShares tree5 (leavesOf tree5)) (state9 0)
+
 abbrev rated : ℕ → Clock
 rated vrate = record { time = 0; vtime = virt 0; since = virt 0; vrate = vrate }
 
@@ -281,6 +289,7 @@ edges =
     ∷ is (countInRange 2) ∷ isNot (countInRange 1) ∷ is (countInRange 64) ∷ isNot (countInRange 65)
     ∷ is (weightInRange 1) ∷ isNot (weightInRange 0) ∷ is (weightInRange 10000) ∷ isNot (weightInRange 10001)
     ∷ isNot (isFault (treeFault (chain 8))) ∷ is (isFault (treeFault (chain 9)))
+    ∷ isNot (isFault (newestFault (star 63))) ∷ is (isFault (newestFault (star 64)))
     ∷ gives 0 (roomChecks Waits (abs 1) emptyRow (holding 7)) ∷ gives 7 (roomChecks Waits (abs 1) emptyRow (holding 8))
     ∷ gives 0 (roomChecks OnDebt (abs 1) (owing (2 ^ 40 - 1)) emptyQueue) ∷ gives 8 (roomChecks OnDebt (abs 1) (owing (2 ^ 40)) emptyQueue)
     ∷ gives 0 (tickChecks 250 0 later) ∷ gives 9 (tickChecks 249 0 later)
@@ -296,8 +305,10 @@ edges =
     ∷ B 0 (capped (saved (2 ^ 27 + 1)) (holding 1) .budget .0) (2 ^ 27 + 1)
     ∷ B 0 (targetOf (virt 1000000) (abs 0)) 1024
     ∷ is (isQuiet (abs 49) (virt 100)) ∷ isNot (isQuiet (abs 50) (virt 100))
+    ∷ is (quietIn (running tree5 (used 20 ∷ used 29 ∷ []) 100)) ∷ isNot (quietIn (running tree5 (used 20 ∷ used 30 ∷ []) 100))
     ∷ B 0 (letter (submitted (bio 1 0 4096) (behind9 400000) .answer)) 87
     ∷ B 0 (letter (submitted (bio 1 2 4096) (behind9 400000) .answer)) 73
+    ∷ B 0 (submitted (bio 2 0 4096) donating9 .state .donors) 2 ∷ B 0 (submitted (bio 1 0 4096) donating9 .state .donors) 0
     ∷ B 0 (rowAt waits9 1 .end) 8 ∷ is (rowAt waits9 1 .begun) ∷ is (rowAt waits9 1 .accepted)
     ∷ B 0 (growth (rated 50) 3 .0) 1 ∷ B 0 (growth (rated 400) 3 .0) 12 ∷ B 0 (vrated 50 (clocked 0 0 0) .state .clock .vrate) 50
     ∷ B 0 (later .clock .time) 250 ∷ B 0 (later .clock .vtime .0) 250 ∷ B 0 (later .clock .since .0) 250

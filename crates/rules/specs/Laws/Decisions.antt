@@ -1,7 +1,7 @@
 -- Demand 2 in a customer's words: which bio is issued, which waits and which goes on debt, and what that does to the state.
 -- Assumes nothing.
 use mathlib.Core.Path.{_≡_, refl, sym, ap, _∙_}
-use mathlib.Core.Logic.{_↔_}
+use mathlib.Core.Logic.{_↔_, _⊎_, inl, inr}
 use mathlib.Core.Bool.{Bool, true, false, _&&_}
 use Prim.Native.Nat.{ℕ, _*_, _≤_, _<_}
 use native.Mathlib.Omega.{arith}
@@ -25,6 +25,7 @@ use Rattle.rules.specs.declared.cost.Bio.{Bio}
 use Rattle.rules.specs.declared.budget.Controller.{Controller}
 use Rattle.rules.specs.declared.refusals.Verdict.{Verdict}
 use Rattle.rules.specs.declared.refusals.Verdict.the-variants.{Accepted, Refused}
+use Rattle.rules.specs.declared.refusals.Answer.{Answer}
 use Rattle.rules.specs.declared.refusals.Answer.the-variants.{Issued, Waits, OnDebt}
 
 -- ---- the bio's leaf, in the state as it was, can pay for it
@@ -131,6 +132,11 @@ answered-state : (b : Bio) (c : Controller) → firstOf (submitChecks b c) ≡ A
 unfolding submitted submittedBy submission wouldBe
 answered-state b c e = ap (λ (v : Verdict). submittedBy v b c .state) e
 
+waits-or-owes : (a : Answer) → (a ≡ Waits) ⊎ (a ≡ OnDebt) → endsDonation a ≡ true
+unfolding endsDonation
+waits-or-owes a (inl e) = rw e
+waits-or-owes a (inr e) = rw e
+
 issued-is-accepted : (b : Bio) (c : Controller) → submitted b c .answer ≡ Issued → firstOf (submitChecks b c) ≡ Accepted
 unfolding submitted submittedBy
 issued-is-accepted b c = go (firstOf (submitChecks b c))
@@ -153,14 +159,25 @@ module _ {c : Controller} (s : Sound c) (b : Bio) where
 
   module _ (taken : firstOf (submitChecks b c) ≡ Accepted) where
     -- "If the bio waited or went on debt and the leaf is a donor, the donation ends"
-    pub a-donor-that-waits-or-owes-ends-the-donation : has (c .donors) (b .node) ≡ true → endsDonation (submitted b c .answer) ≡ true
+    pub a-donor-that-waits-or-owes-ends-the-donation : has (c .donors) (b .node) ≡ true
+        → (submitted b c .answer ≡ Waits) ⊎ (submitted b c .answer ≡ OnDebt)
         → (submitted b c .state .donors ≡ noNode) × (submitted b c .state .shares ≡ baseShares (c .tree) (c .active))
     unfolding settled applied rebased reshared
     a-donor-that-waits-or-owes-ends-the-donation donor ends =
         let on : has (c .active) (b .node) ≡ true = s .donors (b .node) donor .active in
-        let e : endsDonation (wouldBe c b) ≡ true = rw (not-refused-is-answered b c taken) at ends in (
+        let e : endsDonation (wouldBe c b) ≡ true = waits-or-owes (wouldBe c b) (rw (not-refused-is-answered b c taken) at ends) in (
           ap (λ (d : Controller). d .donors) (answered-state b c taken) ∙ rw (entered-active (b .node) c on, e, donor),
           ap (λ (d : Controller). d .shares) (answered-state b c taken) ∙ rw (entered-active (b .node) c on, e, donor),
+        )
+
+    -- and no other does, be it issued, waits or on debt
+    pub an-active-non-donor-ends-no-donation : has (c .active) (b .node) ≡ true → has (c .donors) (b .node) ≡ false
+        → (submitted b c .state .donors ≡ c .donors) × (submitted b c .state .shares ≡ c .shares)
+    unfolding settled applied
+    an-active-non-donor-ends-no-donation on taker =
+        let none-donates : (endsDonation (wouldBe c b) && has (c .donors) (b .node)) ≡ false = and-not-right (endsDonation (wouldBe c b)) (has (c .donors) (b .node)) taker in (
+          ap (λ (d : Controller). d .donors) (answered-state b c taken) ∙ rw (entered-active (b .node) c on, none-donates),
+          ap (λ (d : Controller). d .shares) (answered-state b c taken) ∙ rw (entered-active (b .node) c on, none-donates),
         )
 
     -- "any donation ends and all base shares are worked out anew"
