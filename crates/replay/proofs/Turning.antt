@@ -84,12 +84,12 @@ pub turns : {s a r : Standing} {chunk mid after out₀ out : List ℕ} {f : Fed}
     → Onward (f .pause) a mid r after → Turned s chunk (length out₀) r after
 unfolding fed
 turns {s} {a} {r} {chunk} {mid} {after} {out₀} p k o =
-    let all : r .replay ≡ partOf s chunk (length out₀) .replay = o .same ∙ k .same ∙ ap (λ (f : Fed). f .replay) (p .feeds) in
-    let left = k .left ∙ ap (λ (f : Fed). drop (f .place) (waiting s chunk)) (p .feeds) in
+    let all : r .replay ≡ partOf s chunk (length out₀) .replay = o .same ∙ k .same ∙ ap (λ (f : Fed). f .replay) (p .feeds .answers) in
+    let left = k .left ∙ ap (λ (f : Fed). drop (f .place) (waiting s chunk)) (p .feeds .answers) in
     record {
       stands = o .stands;
       replayed = all;
       next = o .next;
       behind = o .behind ∙ ap (λ (l : List ℕ). l ++ o .next) left;
-      ends = λ g x. rw all (sym (ap (λ (f : Fed). f .pause) (p .feeds)) ∙ o .ends g x);
+      ends = λ g x. rw all (sym (ap (λ (f : Fed). f .pause) (p .feeds .answers)) ∙ o .ends g x);
     }

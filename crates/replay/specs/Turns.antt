@@ -8,15 +8,15 @@ use Prim.Native.Nat.{ℕ, _≤_}
 use lib.ListN.{length, take, drop}
 use Rattle.rules.specs.Trace.{readAt}
 use Rattle.rules.specs.Replay.{beginning, replay}
-use Rattle.rules.specs.Chunks.{Part, part, pauseOf, fed}
+use Rattle.rules.specs.Chunks.{Part, part, pauseOf}
 use Rattle.rules.specs.Invariant.{Playing}
-use Rattle.rules.specs.Laws.Buffers.{Written}
 use Rattle.rules.specs.Laws.Cuts.{Played, however-cut}
 use Rattle.rules.specs.Laws.Cuts.Played.{feed, more, over}
 use Rattle.rules.specs.declared.replay.Replay.{Replay}
 use Rattle.rules.specs.declared.replay.Fed.{Fed}
 use Rattle.rules.specs.declared.replay.Pause.{Pause}
 use Rattle.rules.specs.declared.replay.Pause.the-variants.{Over}
+use Rattle.steps.specs.Fed.{Feeds}
 use Rattle.replay.specs.declared.run.Standing.{Standing}
 use Rattle.replay.specs.declared.run.End.the-variants.{Over as EndOver}
 
@@ -34,9 +34,7 @@ partOf s chunk room = part (s .last) (waiting s chunk) room 0 (s .replay)
 
 -- the bytes that wait are fed, and their lines stand in a line buffer that held out₀
 pub record Replayed (s : Standing) (chunk out₀ out : List ℕ) (f : Fed) : Type 0 where
-  pub feeds : f ≡ fed (s .last) (waiting s chunk) (length out₀) 0 (s .replay)
-  pub lines : Written (partOf s chunk (length out₀) .bytes) (f .count) out₀ out
-  pub playing : Playing (f .replay)
+  pub feeds : Feeds (s .last) (waiting s chunk) 0 (s .replay) f out₀ out
   pub fits : f .count ≤ length out
   pub inside : f .place ≤ s .filled
 

@@ -22,9 +22,7 @@ returns : tie.Need-returns
 returns c =
     let f = c .before .before .feed .ensures in
     record {
-      feeds = f .answers;
-      lines = f .lines;
-      playing = f .playing;
+      feeds = f;
       fits = omega (arith, f .fits);
       inside = le-trans (f .inside zero-le) (le-of-eq (length-take-le _ _ (c .before .before .before .before .before .before .before .before .pre .1)));
     }
