@@ -25,7 +25,7 @@ const WAITING_MOST: usize = 504;
 pub const LINE_ROOM: usize = 6552;
 
 // What is read asks this of the controller.
-pub fn call_of(read: Read) -> Call
+fn call_of(read: Read) -> Call
     ensures { λ r. ⌜ r ≡ callOf read ⌝ }
 {
     match read {

@@ -29,7 +29,7 @@ staysWith row waiting = stays row (counted waiting)
 abbrev pub isDonorWith : ℕ → ℕ → Row → ℕ → Bool
 isDonorWith target base row waiting = isDonor target base row (counted waiting)
 
--- ---- and nothing is lost by it
+-- ---- nothing is lost by it: of the cap and of who stays by definition, of the other two by cases
 pub answer-by-count : (forced : Bool) (cost : Abs) (share : ℕ) (row : Row) (q : Queue)
     → answerTo forced cost share row q ≡ answerWith forced cost share row (q .len)
 unfolding answerTo

@@ -17,9 +17,9 @@ use Rattle.rules.specs.Budget.{emptyQueue, emptyRow, fresh, rowAt, queue
 use Rattle.rules.specs.Tick.{growth, advanced, repayment, repaid, releaseIn, released, capped, turn, turnOf, releases, lentAfter, tick, waitingAll}
 use Rattle.rules.specs.Plan.{usageAll, isQuiet, forgiveness, usedShare, targetOf, isDonor, isTaker, isDonation, sumOver, takenOf, isLowest, remainder, shareGiven, donated, quietIn, activeAfter, targetsIn, donorsIn, closed, shared, plan, vrateInRange}
 use Rattle.rules.specs.Refusals.{Check, firstOf, isFault, verdictNumber, readNumber, writeNumber, treeChecks, nodeChecks, rateChecks, startChecks, costChecks, roomChecks, submitChecks, tickChecks, planChecks, vrateChecks}
-use Rattle.rules.specs.Entries.{treeVerdict, costing, costingBy, started, startedBy, submitted, submittedBy, ticked, tickedBy, lentBy, lentOf, planned, plannedBy, vrated, vratedBy}
+use Rattle.rules.specs.Entries.{treeVerdict, costing, costingBy, started, startedBy, submitted, submittedBy, ticked, tickedBy, lentBy, lentOf, planned, plannedBy, vrated, vratedBy, slowest}
 use Rattle.rules.specs.Trace.{bytesOf, numberOf, isKind, layout, kindOf, fieldsOf, recordOf, bodyOf, recordBytes, writing, fieldsFrom, behind, readKind, readAt}
-use Rattle.rules.specs.Replay.{digits, digitsIn, line, refusalLine, answerLine, tickLines, shareLines, planLines, verdictLines, inPhase, beginning, nodeStep, modelStep, startStep, recordStep, readStep, nextPlace, stepped, replayFrom, replay}
+use Rattle.rules.specs.Replay.{digits, digitsIn, line, refusalLine, answerLine, tickLines, shareLines, planLines, verdictLines, inPhase, beginning, nodeStep, modelStep, startStep, recordStep, readStep, nextPlace, stepped, replayFrom, replay, within, rootTree, isStopped}
 use Rattle.rules.specs.declared.cost.Rates.{Rates}
 use Rattle.rules.specs.declared.cost.Price.{Price}
 use Rattle.rules.specs.declared.cost.Model.{Model}
@@ -39,7 +39,9 @@ use Rattle.rules.specs.declared.refusals.Verdict.{Verdict}
 use Rattle.rules.specs.declared.refusals.Verdict.the-variants.{Accepted, Refused}
 use Rattle.rules.specs.declared.refusals.Refusal.the-variants.{NoLeaf, BadBio, TooDear, QueueFull, DebtFull, TimeBack, TimeFar, ClockFull, PlanDue, FewPlaces, NothingPassed, BadVrate}
 use Rattle.rules.specs.declared.trace.Record.{Record}
-use Rattle.rules.specs.declared.trace.Record.the-variants.{Node, Model as ModelOf, Start, Bio as BioOf, Tick, Plan}
+use Rattle.rules.specs.declared.trace.Record.the-variants.{Node, Model as ModelOf, Start, Bio as BioOf, Tick, Plan, Vrate}
+use Rattle.rules.specs.declared.trace.Read.the-variants.{Found}
+use Rattle.rules.specs.declared.replay.Phase.{Phase}
 use Rattle.rules.specs.declared.replay.Phase.the-variants.{Setup, Priced, Running}
 
 -- every rule that the checker computes below: to unfold this is to unfold them all
@@ -276,6 +278,10 @@ written places = writeNumber (writing (Tick 0) (replicate places 7))
 abbrev first : List ℕ → ℕ
 first trace = getD (stepped (readAt trace 0) beginning .bytes) 3 0
 
+-- does a record stop a replay of no node that is in this phase?
+abbrev stopsIn : Phase → Record → Bool
+stopsIn phase r = isStopped (stepped (Found r 0) (within phase rootTree slowest (beginning .state)) .replay .phase)
+
 pub edges : List Case
 edges =
     is (bpsInRange 4096) ∷ isNot (bpsInRange 4095) ∷ is (bpsInRange (2 ^ 40)) ∷ isNot (bpsInRange (2 ^ 40 + 1))
@@ -285,6 +291,7 @@ edges =
     ∷ is (sectorInRange (2 ^ 48)) ∷ isNot (sectorInRange (2 ^ 48 + 1))
     ∷ is (flagsInRange 3) ∷ isNot (flagsInRange 4)
     ∷ gives 0 (costChecks (dear (2 ^ 31)) emptyRow (bio 1 0 512)) ∷ gives 6 (costChecks (dear (2 ^ 31 + 1)) emptyRow (bio 1 0 512))
+    ∷ gives 5 (costChecks (dear (2 ^ 31 + 1)) emptyRow (bio 1 0 513))
     ∷ is (isNear 32768 0) ∷ isNot (isNear 32769 0) ∷ is (isNear 0 32768) ∷ isNot (isNear 0 32769)
     ∷ is (countInRange 2) ∷ isNot (countInRange 1) ∷ is (countInRange 64) ∷ isNot (countInRange 65)
     ∷ is (weightInRange 1) ∷ isNot (weightInRange 0) ∷ is (weightInRange 10000) ∷ isNot (weightInRange 10001)
@@ -321,7 +328,9 @@ edges =
     ∷ B 0 (written 9) 0 ∷ B 0 (written 8) 28
     ∷ is (inPhase Setup 1) ∷ is (inPhase Setup 2) ∷ isNot (inPhase Setup 3) ∷ isNot (inPhase Setup 4)
     ∷ is (inPhase Priced 1) ∷ isNot (inPhase Priced 2) ∷ is (inPhase Priced 3) ∷ isNot (inPhase Priced 4)
-    ∷ isNot (inPhase Running 3) ∷ is (inPhase Running 4) ∷ is (inPhase Running 7)
+    ∷ isNot (inPhase Running 1) ∷ isNot (inPhase Running 2) ∷ isNot (inPhase Running 3) ∷ is (inPhase Running 4) ∷ is (inPhase Running 7)
+    ∷ is (stopsIn Setup (Node 0 0)) ∷ isNot (stopsIn Setup (Node 0 1)) ∷ is (stopsIn Setup (ModelOf (ratesM 0))) ∷ isNot (stopsIn Setup (ModelOf (ratesM 1)))
+    ∷ is (stopsIn Priced (Start 0)) ∷ isNot (stopsIn Running (Vrate 0))
     ∷ B 0 (first (8 ∷ [])) 54 ∷ B 0 (first (5 ∷ [])) 55 ∷ B 0 (first (recordBytes (Tick 0))) 56
     ∷ []
 
@@ -478,7 +487,7 @@ pub run-reaches :
 unfolding computed moves begun
 run-reaches = (refl, refl, refl, refl)
 
--- 11: a state of the run at another virtual time, which the ticks of no list of a bearable length bring about
+-- 11: a state at another virtual time, which the ticks of no list of a bearable length bring about
 abbrev pub aged : ℕ → Controller → Controller
 aged vtime c =
     withClock (record { time = c .clock .time; vtime = virt vtime; since = c .clock .since; vrate = c .clock .vrate }) c

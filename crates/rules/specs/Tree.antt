@@ -47,17 +47,17 @@ nodeFault t n =
     cond (leb n (parent t n)) (Parent n)
     (cond (not (weightInRange (weight t n))) (Weight n) (cond (ltb levelMost (level t n)) (Level n) Sound))
 
-abbrev pub firstFault : Fault → Fault → Fault
-firstFault Sound g = g
-firstFault Count g = Count
-firstFault (Parent n) g = Parent n
-firstFault (Weight n) g = Weight n
-firstFault (Level n) g = Level n
+abbrev pub earlierFault : Fault → Fault → Fault
+earlierFault Sound g = g
+earlierFault Count g = Count
+earlierFault (Parent n) g = Parent n
+earlierFault (Weight n) g = Weight n
+earlierFault (Level n) g = Level n
 
 -- the first fault of the nodes 1 to m
 unfoldable pub faultTo : Tree → ℕ → Fault
 faultTo t zero = Sound
-faultTo t (suc m) = firstFault (faultTo t m) (nodeFault t (suc m))
+faultTo t (suc m) = earlierFault (faultTo t m) (nodeFault t (suc m))
 
 unfoldable pub treeFault : Tree → Fault
 treeFault t = cond (countInRange (t .count)) (faultTo t (last t)) Count

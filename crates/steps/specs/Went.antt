@@ -13,7 +13,7 @@ use Rattle.rules.specs.declared.replay.Stepped.{Stepped}
 abbrev pub Does : Step → ℕ → Replay → List ℕ → List ℕ → Type 0
 Does step count replay o₀ o = Written (step .bytes) count o₀ o × (replay ≡ step .replay)
 
--- with a buffer of any length, that held o₀
+-- the answer is the rule's, and so is the buffer, which held o₀ and may be of any length
 pub record Steps (read : Read) (s : Replay) (r : Stepped) (o₀ o : List ℕ) : Type 0 where
   pub answers : r ≡ stepping read s o₀
   pub leaves : o ≡ steppedTo read s o₀

@@ -11,7 +11,7 @@ use lib.ListN.{getD}
 use borrow.Author.Tests.{le-leb, lt-leb, lt-ltb, le-ltb}
 use lib.Dec.{leb}
 use Rattle.rules.specs.Numbers.{nodesLeast, nodesMost, levelMost}
-use Rattle.rules.specs.Tree.{last, level, countInRange, weightInRange, nodeFault, firstFault, faultTo, treeFault, newestFault}
+use Rattle.rules.specs.Tree.{last, level, countInRange, weightInRange, nodeFault, earlierFault, faultTo, treeFault, newestFault}
 use Rattle.rules.specs.Refusals.{isFault}
 use Rattle.rules.specs.declared.tree.Tree.{Tree}
 use Rattle.rules.specs.declared.tree.Fault.{Fault}
@@ -50,12 +50,12 @@ module _ (ps ws : List ℕ) (n : ℕ) (pos : 0 < n) {q : ℕ} (e : q ≡ getD ps
           rw (parent-at count ps ws n pos, ← e, lt-leb n q small, weight-at count ps ws n, fair, ← levels count ws, le-ltb levelMost r l)
 
 -- ---- node after node
-or-else-kept : (f g : Fault) → isFault f ≡ true → firstFault f g ≡ f
-or-else-kept Sound g e = absurd (true-not-false e refl)
-or-else-kept Count g e = refl
-or-else-kept (Parent n) g e = refl
-or-else-kept (Weight n) g e = refl
-or-else-kept (Level n) g e = refl
+earlier-kept : (f g : Fault) → isFault f ≡ true → earlierFault f g ≡ f
+earlier-kept Sound g e = absurd (true-not-false e refl)
+earlier-kept Count g e = refl
+earlier-kept (Parent n) g e = refl
+earlier-kept (Weight n) g e = refl
+earlier-kept (Level n) g e = refl
 
 -- past nodes with no fault, the next one's is the first
 fault-next : (t : Tree) (n m : ℕ) → n ≡ suc m → faultTo t m ≡ Sound → faultTo t n ≡ nodeFault t n
@@ -71,7 +71,7 @@ fault-kept t m (suc k) f l =
     (λ (e : m ≡ suc k). rw e)
     (λ (q : m < suc k).
     let i : faultTo t k ≡ faultTo t m = fault-kept t m k f (omega arith) in
-    rw i (or-else-kept (faultTo t m) (nodeFault t (suc k)) f))
+    rw i (earlier-kept (faultTo t m) (nodeFault t (suc k)) f))
     (eq-or-lt-of-le l)
 
 -- what the loop over the nodes below count has at its head: those before n are sound

@@ -61,10 +61,6 @@ module _ {c : Controller} (sound : Sound c) (g : Virt) (n : ℕ) where
   pub released-ids-are-the-first-of-the-queue : turnOf g c n .ids ≡ idsOfFirst (queueAt c n) (howMany g c n)
   released-ids-are-the-first-of-the-queue = leaf-tick sound g n .ids
 
-  pub released-cost-is-the-sum-of-their-costs : releasedAt g c n ≡ costOfFirst (queueAt c n) (howMany g c n)
-  unfolding releasedAt
-  released-cost-is-the-sum-of-their-costs = refl
-
   pub as-many-leave-the-queue : turnOf g c n .queue .len + howMany g c n ≡ queueAt c n .len
   as-many-leave-the-queue = leaf-tick sound g n .left
 

@@ -117,6 +117,10 @@ pub refusal-line-most : (x : Refusal) → length (refusalLine x) ≤ 5
 unfolding refusalLine
 refusal-line-most x = omega (arith, line-one-length 82 (number x), digits-most 1 (number x) (number-most x))
 
+pub refusal-line-some : (x : Refusal) → refusalLine x ≡ [] → ⊥
+unfolding refusalLine
+refusal-line-some x e = omega (arith, line-one-length 82 (number x), ap length e)
+
 -- a line R tells its number
 two-digits : (n : ℕ) → 10 ≤ n → n < 100 → digits n ≡ (48 + n / 10) ∷ (48 + n % 10) ∷ []
 two-digits n l h =

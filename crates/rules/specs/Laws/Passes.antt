@@ -10,6 +10,7 @@ use Rattle.rules.specs.Tree.{treeFault, isThin}
 use Rattle.rules.specs.Tick.{growth, waitingAll}
 use Rattle.rules.specs.Plan.{vrateInRange}
 use Rattle.rules.specs.Refusals.{firstOf, treeChecks, rateChecks, startChecks, tickChecks, vrateChecks}
+use Rattle.rules.specs.Entries.{started, startedBy}
 use Rattle.rules.specs.Laws.TreeVerdicts.{sound-when}
 use Rattle.rules.specs.Laws.Bools.{never, between}
 use Rattle.rules.specs.declared.cost.Rates.{Rates}
@@ -67,3 +68,12 @@ start-passes t r e =
     let b = check-passed _ _ _ (a .1) in
     let d = check-passed _ _ _ (b .1) in
     record { tree = sound-when (treeFault t) (a .0); thick = b .0; rates = not-false _ (d .0) }
+
+-- the answer of a start is what its checks give
+pub start-answers : (t : Tree) (r : Rates) (time : ℕ) → started t r time .answer ≡ firstOf (startChecks t r)
+unfolding started startedBy
+start-answers t r time = go (firstOf (startChecks t r))
+  where
+    go : (v : Verdict) → startedBy v t r time .answer ≡ v
+    go Accepted = refl
+    go (Refused x) = refl

@@ -1,12 +1,13 @@
 -- The refusals that each entry can give, by number and in the table's order, and the number that it gives.
 -- Assumes nothing.
-use mathlib.Core.Path.{_≡_, refl}
+use mathlib.Core.Path.{_≡_, refl, ap}
 use mathlib.Core.List.{List, [], _∷_}
 use Prim.Native.Nat.{ℕ}
 use lib.ListN.{length}
 use Rattle.rules.specs.Budget.{wouldBe, submission}
 use Rattle.rules.specs.Refusals.{numbersOf, firstOf, verdictNumber, answerNumber, countNumber, pricingNumber, costingNumber, treeChecks, nodeChecks, rateChecks, startChecks, costChecks, roomChecks, submitChecks, tickChecks, planChecks, vrateChecks}
-use Rattle.rules.specs.Entries.{pricingBy, pricing, costingBy, costing, startedBy, started, submittedBy, submitted, tickedBy, ticked, plannedBy, planned, vratedBy, vrated}
+use Rattle.rules.specs.Entries.{pricingBy, pricing, costingBy, costing, started, submittedBy, submitted, tickedBy, ticked, plannedBy, planned, vratedBy, vrated}
+use Rattle.rules.specs.Laws.Passes.{start-answers}
 use Rattle.rules.specs.Laws.Answers.{answer-is-no-refusal}
 use Rattle.rules.specs.declared.cost.Rates.{Rates}
 use Rattle.rules.specs.declared.cost.Model.{Model}
@@ -62,12 +63,7 @@ cost-number m row b = go (firstOf (costChecks m row b))
     go (Refused x) = refl
 
 pub start-number : (t : Tree) (r : Rates) (time : ℕ) → verdictNumber (started t r time .answer) ≡ verdictNumber (firstOf (startChecks t r))
-unfolding started startedBy
-start-number t r time = go (firstOf (startChecks t r))
-  where
-    go : (v : Verdict) → verdictNumber (startedBy v t r time .answer) ≡ verdictNumber v
-    go Accepted = refl
-    go (Refused x) = refl
+start-number t r time = ap verdictNumber (start-answers t r time)
 
 -- issued, waits and on debt are no refusals
 no-refusal : (a : Answer) → ((x : Refusal) → a ≡ Declined x → ⊥) → answerNumber a ≡ 0

@@ -1,6 +1,6 @@
 -- Demand 1 in a customer's words: when each refusal of each entry is given, and that a refusal changes nothing.
 -- Assumes nothing.
-use mathlib.Core.Path.{_≡_, refl, ap}
+use mathlib.Core.Path.{_≡_, refl, ap, sym, _∙_}
 use mathlib.Core.Logic.{_↔_}
 use mathlib.Core.Bool.{Bool, true, false, cond, not, _&&_}
 use mathlib.Core.List.{List, [], _∷_}
@@ -19,6 +19,8 @@ use Rattle.rules.specs.Refusals.{Check, _⇒_, firstOf, isFault, isWait,
 use Rattle.rules.specs.Entries.{submittedBy, submitted, tickedBy, ticked, lentBy, lentOf, plannedBy, planned, vratedBy, vrated, startedBy, started, noTree, slowestModel}
 use Rattle.rules.specs.Laws.Bools.{never, true-not-false, exactly, exactly-both, exactly-not, at-most, between}
 use Rattle.rules.specs.Laws.Costs.{BioInRange, bio-in-range, RatesInRange, rates-in-range}
+use Rattle.rules.specs.Laws.TreeVerdicts.{sound-when}
+use Rattle.rules.specs.Laws.Passes.{start-answers}
 use Rattle.rules.specs.Laws.Answers.{answer-is-no-refusal}
 use Rattle.rules.specs.Laws.Verdicts.{lacks, accepted-is-not-refused, not-given, given-exactly-when}
 use Rattle.rules.specs.Laws.Submits.{costIn}
@@ -26,7 +28,7 @@ use Rattle.rules.specs.declared.cost.Rates.{Rates}
 use Rattle.rules.specs.declared.cost.Bio.{Bio}
 use Rattle.rules.specs.declared.tree.Tree.{Tree}
 use Rattle.rules.specs.declared.tree.Fault.{Fault}
-use Rattle.rules.specs.declared.tree.Fault.the-variants.{Sound as NoFault, Count, Parent, Weight, Level}
+use Rattle.rules.specs.declared.tree.Fault.the-variants.{Sound as NoFault}
 use Rattle.rules.specs.declared.budget.Controller.{Controller}
 use Rattle.rules.specs.declared.refusals.Refusal.{Refusal}
 use Rattle.rules.specs.declared.refusals.Refusal.the-variants.{BadTree, ThinTree, BadRate, NoLeaf, BadBio, TooDear, QueueFull, DebtFull, TimeBack, TimeFar, ClockFull, PlanDue, FewPlaces, NothingPassed, BadVrate}
@@ -271,19 +273,10 @@ refusal-15-exactly-when v c =
 
 -- ---- the refusals of start
 start-refuses : (t : Tree) (r : Rates) (time : ℕ) (x : Refusal) → (started t r time .answer ≡ Refused x) ↔ (firstOf (startChecks t r) ≡ Refused x)
-unfolding started startedBy
-start-refuses t r time x = go (firstOf (startChecks t r))
-  where
-    go : (v : Verdict) → (startedBy v t r time .answer ≡ Refused x) ↔ (v ≡ Refused x)
-    go Accepted = (λ e. e, λ e. e)
-    go (Refused y) = (λ e. e, λ e. e)
+start-refuses t r time x = (λ e. sym (start-answers t r time) ∙ e, λ e. start-answers t r time ∙ e)
 
 fault-test : (f : Fault) → (isFault f ≡ false) ↔ (f ≡ NoFault)
-fault-test NoFault = (λ e. refl, λ e. refl)
-fault-test Count = (λ e. absurd (true-not-false refl e), λ e. never (cc))
-fault-test (Parent n) = (λ e. absurd (true-not-false refl e), λ e. never (cc))
-fault-test (Weight n) = (λ e. absurd (true-not-false refl e), λ e. never (cc))
-fault-test (Level n) = (λ e. absurd (true-not-false refl e), λ e. never (cc))
+fault-test f = (sound-when f, λ e. rw e)
 
 fault-given : (f g : Fault) (rest : List Check) → lacks 1 rest ≡ true
     → (firstOf ((isFault g ⇒ BadTree g) ∷ rest) ≡ Refused (BadTree f)) ↔ ((g ≡ f) × (isFault f ≡ true))

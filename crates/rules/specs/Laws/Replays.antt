@@ -2,10 +2,11 @@
 -- Assumes nothing.
 use mathlib.Core.Path.{_≡_, refl, sym, ap, _∙_}
 use mathlib.Core.Bool.{Bool, true, false, cond}
-use mathlib.Core.Logic.{⊎-elim, _↔_}
-use mathlib.Core.List.{List}
+use mathlib.Core.Logic.{⊎-elim, dite, _↔_}
+use mathlib.Core.List.{List, []}
 use Prim.Native.Nat.{ℕ, _-_, _≤_, _<_}
-use native.Mathlib.Nat.{eq-or-lt-of-le}
+use native.Mathlib.Nat.{eq-or-lt-of-le, lt-of-not-le, le-of-suc-le-suc}
+use native.Mathlib.Decide.{decLt}
 use native.Mathlib.Omega.{arith}
 use lib.Dec.{leb}
 use lib.ListN.{getD}
@@ -16,12 +17,12 @@ use Rattle.rules.specs.Tree.{parent, last, nodeFault, newestFault, count
 use Rattle.rules.specs.Refusals.{Check, number, firstOf, nodeChecks, rateChecks, treeChecks, startChecks}
 use Rattle.rules.specs.Entries.{noTree, slowest, started, startedBy, submitted, ticked, planned, vrated}
 use Rattle.rules.specs.Trace.{kindOf}
-use Rattle.rules.specs.Replay.{Step, inPhase, isStopped, within, stopsAt, silent, beginning, grown, allRoom, nodeStep, modelStep, startStep, recordStep, readStep, stepped}
+use Rattle.rules.specs.Replay.{Step, refusalLine, inPhase, isStopped, within, stopsAt, silent, beginning, grown, allRoom, nodeStep, modelStep, startStep, recordStep, readStep, stepped}
 use Rattle.rules.specs.Invariant.{Sound, Playing}
 use Rattle.rules.specs.Laws.Bools.{never, true-not-false, is-false}
 use Rattle.rules.specs.Laws.Verdicts.{lacks, not-given}
-use Rattle.rules.specs.Laws.Lines.{refusal-line-tells}
-use Rattle.rules.specs.Laws.Passes.{check-passed}
+use Rattle.rules.specs.Laws.Lines.{refusal-line-tells, refusal-line-some}
+use Rattle.rules.specs.Laws.Passes.{check-passed, start-answers}
 use Rattle.rules.specs.Laws.Trees.{parent-is, node-sound}
 use Rattle.rules.specs.Laws.TreeVerdicts.{sound-when}
 use Rattle.rules.specs.Laws.Starts.{start-gives, vrate-keeps}
@@ -158,14 +159,6 @@ calls-go-on (Tick time) s h = refl
 calls-go-on Plan s h = refl
 calls-go-on (Vrate v) s h = refl
 
-start-answers : (t : Tree) (r : Rates) (time : ℕ) → started t r time .answer ≡ firstOf (startChecks t r)
-unfolding started startedBy
-start-answers t r time = go (firstOf (startChecks t r))
-  where
-    go : (v : Verdict) → startedBy v t r time .answer ≡ v
-    go Accepted = refl
-    go (Refused x) = refl
-
 -- ---- ".. first checked for 16, 17 and 18": what cannot be read stops the replay, then a record out of its phase; any other
 -- is carried out
 module _ (s : Replay) (goes : isStopped (s .phase) ≡ false) where
@@ -181,34 +174,78 @@ module _ (s : Replay) (goes : isStopped (s .phase) ≡ false) where
   unfolding stepped readStep
   in-phase-is-carried-out r next here = rw (goes, here)
 
-  -- ---- 18 exactly when the record is out of its phase: a record of setup that is carried out has its own refusals, and a call
-  -- goes on
-  setup-gives : (ks : List Check) → lacks 18 ks ≡ true → (step : Verdict → Step) → isStopped (step Accepted .replay .phase) ≡ false
-      → ((x : Refusal) → step (Refused x) ≡ stopsAt x s) → step (firstOf ks) ≡ stopsAt WrongPhase s → ⊥
-  setup-gives ks none step on stops e = go (firstOf ks) refl e
-    where
-      go : (v : Verdict) → firstOf ks ≡ v → step v ≡ stopsAt WrongPhase s → ⊥
-      go Accepted f i = true-not-false (ap (λ (t : Step). isStopped (t .replay .phase)) i) on
-      go (Refused x) f i =
-          let same : number x ≡ 18 = refusal-line-tells x WrongPhase (ap (λ (t : Step). t .bytes) (sym (stops x) ∙ i)) in
-          not-given x ks (rw same none) f
+  -- ---- each record of setup goes by a verdict: accepted it prints nothing and does not stop, refused it prints R and stops
+  record SetupStep (r : Record) : Type 0 where
+    checks : List Check
+    no-18 : lacks 18 checks ≡ true
+    step : Verdict → Step
+    same : recordStep r s ≡ step (firstOf checks)
+    quiet : step Accepted .bytes ≡ []
+    on : isStopped (step Accepted .replay .phase) ≡ false
+    stops : (x : Refusal) → step (Refused x) ≡ stopsAt x s
 
-  not-18 : (r : Record) → recordStep r s ≡ stopsAt WrongPhase s → ⊥
-  unfolding recordStep nodeStep modelStep startStep nodeChecks rateChecks startChecks treeChecks
-  not-18 (Node p w) e =
-      setup-gives (nodeChecks (grown p w (s .tree))) refl (λ v. nodeStep v (grown p w (s .tree)) s) goes (λ x. refl) e
-  not-18 (ModelOf r) e = setup-gives (rateChecks r) refl (λ v. modelStep v r s) refl (λ x. refl) e
-  not-18 (Start time) e =
-      setup-gives (startChecks (s .tree) (s .rates)) refl (λ v. startStep v (started (s .tree) (s .rates) time .state) s) refl (λ x. refl)
-      (rw (← start-answers (s .tree) (s .rates) time) e)
-  not-18 (BioOf b) e = true-not-false (ap (λ (t : Step). isStopped (t .replay .phase)) e) goes
-  not-18 (Tick time) e = true-not-false (ap (λ (t : Step). isStopped (t .replay .phase)) e) goes
-  not-18 Plan e = true-not-false (ap (λ (t : Step). isStopped (t .replay .phase)) e) goes
-  not-18 (Vrate v) e = true-not-false (ap (λ (t : Step). isStopped (t .replay .phase)) e) goes
+  setup-step : (r : Record) → kindOf r < 4 → SetupStep r
+  unfolding kindOf recordStep nodeStep modelStep startStep nodeChecks rateChecks startChecks treeChecks
+  setup-step (Node p w) k = record {
+    checks = nodeChecks (grown p w (s .tree));
+    no-18 = refl;
+    step = λ v. nodeStep v (grown p w (s .tree)) s;
+    same = refl;
+    quiet = refl;
+    on = goes;
+    stops = λ x. refl;
+  }
+  setup-step (ModelOf r) k = record {
+    checks = rateChecks r;
+    no-18 = refl;
+    step = λ v. modelStep v r s;
+    same = refl;
+    quiet = refl;
+    on = refl;
+    stops = λ x. refl;
+  }
+  setup-step (Start time) k = record {
+    checks = startChecks (s .tree) (s .rates);
+    no-18 = refl;
+    step = λ v. startStep v (started (s .tree) (s .rates) time .state) s;
+    same = rw (start-answers (s .tree) (s .rates) time);
+    quiet = refl;
+    on = refl;
+    stops = λ x. refl;
+  }
+  setup-step (BioOf b) k = absurd (omega arith)
+  setup-step (Tick time) k = absurd (omega arith)
+  setup-step Plan k = absurd (omega arith)
+  setup-step (Vrate v) k = absurd (omega arith)
+
+  -- "After R in setup .. it stops"
+  pub refused-in-setup-stops : (r : Record) → kindOf r < 4 → (x : Refusal) → recordStep r s .bytes ≡ refusalLine x → recordStep r s .replay .phase ≡ Stopped
+  refused-in-setup-stops r k x e = let w = setup-step r k in rw (w .same) (go w (firstOf (w .checks)) (rw (w .same) at e))
+    where
+      go : (w : SetupStep r) (v : Verdict) → w .step v .bytes ≡ refusalLine x → w .step v .replay .phase ≡ Stopped
+      go w Accepted f = absurd (refusal-line-some x (sym f ∙ w .quiet))
+      go w (Refused y) f = rw (w .stops y)
+
+  -- ---- 18 is given, its line printed and the replay stopped, exactly when the record is out of its phase: one of setup that is
+  -- carried out has its own refusals, and a call goes on
+  setup-not-18 : {r : Record} → SetupStep r → recordStep r s ≡ stopsAt WrongPhase s → ⊥
+  setup-not-18 w e = go (firstOf (w .checks)) refl (sym (w .same) ∙ e)
+    where
+      go : (v : Verdict) → firstOf (w .checks) ≡ v → w .step v ≡ stopsAt WrongPhase s → ⊥
+      go Accepted f i = true-not-false (ap (λ (t : Step). isStopped (t .replay .phase)) i) (w .on)
+      go (Refused x) f i =
+          let same : number x ≡ 18 = refusal-line-tells x WrongPhase (ap (λ (t : Step). t .bytes) (sym (w .stops x) ∙ i)) in
+          not-given x (w .checks) (rw same (w .no-18)) f
+
+  call-not-18 : (r : Record) → 4 ≤ kindOf r → recordStep r s ≡ stopsAt WrongPhase s → ⊥
+  call-not-18 r k e = true-not-false (ap (λ (t : Step). isStopped (t .replay .phase)) e) (rw (calls-go-on r s k) goes)
 
   pub refusal-18-exactly-when : (r : Record) (next : ℕ)
       → (stepped (Found r next) s ≡ stopsAt WrongPhase s) ↔ (inPhase (s .phase) (kindOf r) ≡ false)
   refusal-18-exactly-when r next = (
-    λ e. is-false (inPhase (s .phase) (kindOf r)) (λ here. not-18 r (sym (in-phase-is-carried-out r next here) ∙ e)),
+    λ e. is-false (inPhase (s .phase) (kindOf r)) (λ here. carried (sym (in-phase-is-carried-out r next here) ∙ e)),
     out-of-phase-stops r next,
   )
+    where
+      carried : recordStep r s ≡ stopsAt WrongPhase s → ⊥
+      carried = dite (decLt (kindOf r) 4) (λ k. setup-not-18 (setup-step r k)) (λ k. call-not-18 r (le-of-suc-le-suc (lt-of-not-le k)))

@@ -1,5 +1,5 @@
--- What can be read off any sound state: who is active, how small the shares, budgets and usages are, and what stands past the
--- last node.
+-- What can be read off any sound state: who is active, how small the shares and usages are, and what stands past the last
+-- node.
 -- Assumes nothing.
 use mathlib.Core.Path.{_≡_, refl}
 use mathlib.Core.Bool.{Bool, true, false}
@@ -57,7 +57,6 @@ module _ {c : Controller} (sound : Sound c) where
   pub share-pos : (n : ℕ) → has (c .active) n ≡ true → 0 < shareAt c n
   share-pos n e = omega (arith, sound .share-floor n e)
 
-  -- ---- budgets: of an active leaf, alone and with what a tick brings
   -- ---- usages
   pub usage-small : sumTo (λ n. rowAt c n .usage .0) leafMost ≤ 2 ^ 38
   usage-small = omega (arith, sound .usage-most, sound .clock .since-most)

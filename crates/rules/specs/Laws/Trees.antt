@@ -15,7 +15,7 @@ use borrow.Author.Tests.{eq-eqb, ne-eqb}
 use Rattle.rules.specs.Numbers.{WHOLE, nodesLeast, nodesMost, weightLeast, weightMost, levelMost}
 use Rattle.rules.specs.Words.{anyTo, has}
 use Rattle.rules.specs.Units.{FLOOR}
-use Rattle.rules.specs.Tree.{parent, weight, last, levelIn, level, countInRange, weightInRange, nodeFault, firstFault, faultTo, treeFault}
+use Rattle.rules.specs.Tree.{parent, weight, last, levelIn, level, countInRange, weightInRange, nodeFault, earlierFault, faultTo, treeFault}
 use Rattle.rules.specs.Tree.{isLeaf, leavesOf, onWayIn, onWay, isActive, childSum, shareIn, shareOf}
 use Rattle.rules.specs.declared.tree.Tree.{Tree}
 use Rattle.rules.specs.declared.tree.Fault.{Fault}
@@ -55,18 +55,18 @@ parent-is t (suc n) a = refl
 
 -- a test that would have found the fault f has failed
 passed : (b : Bool) (f g : Fault) → (f ≡ Sound → _≡_ {A = ℕ} 0 1) → cond b f g ≡ Sound → (b ≡ false) × (g ≡ Sound)
-passed true f g h e = let z : _≡_ {A = ℕ} 0 1 = h e in absurd (omega arith)
+passed true f g h e = never (h e)
 passed false f g h e = (refl, e)
 
-or-else-left : (f g : Fault) → firstFault f g ≡ Sound → f ≡ Sound
-or-else-left Sound g e = refl
-or-else-left Count g e = e
-or-else-left (Parent n) g e = e
-or-else-left (Weight n) g e = e
-or-else-left (Level n) g e = e
+earlier-left : (f g : Fault) → earlierFault f g ≡ Sound → f ≡ Sound
+earlier-left Sound g e = refl
+earlier-left Count g e = e
+earlier-left (Parent n) g e = e
+earlier-left (Weight n) g e = e
+earlier-left (Level n) g e = e
 
-or-else-right : (f g : Fault) → firstFault f g ≡ Sound → g ≡ Sound
-or-else-right f g e = rw (or-else-left f g e) at e
+earlier-right : (f g : Fault) → earlierFault f g ≡ Sound → g ≡ Sound
+earlier-right f g e = rw (earlier-left f g e) at e
 
 pub node-sound : (t : Tree) (n : ℕ) → nodeFault t n ≡ Sound → SoundNode t n
 unfolding nodeFault
@@ -97,8 +97,8 @@ unfolding faultTo
 nodes-sound t zero e n p q = absurd (omega arith)
 nodes-sound t (suc m) e n p q =
     ⊎-elim
-    (λ (i : n ≡ suc m). rw i (node-sound t (suc m) (or-else-right (faultTo t m) (nodeFault t (suc m)) e)))
-    (λ (l : n < suc m). nodes-sound t m (or-else-left (faultTo t m) (nodeFault t (suc m)) e) n p (omega arith))
+    (λ (i : n ≡ suc m). rw i (node-sound t (suc m) (earlier-right (faultTo t m) (nodeFault t (suc m)) e)))
+    (λ (l : n < suc m). nodes-sound t m (earlier-left (faultTo t m) (nodeFault t (suc m)) e) n p (omega arith))
     (eq-or-lt-of-le q)
 
 sound-nodes : (t : Tree) (m : ℕ) → ((n : ℕ) → 0 < n → n ≤ m → SoundNode t n) → faultTo t m ≡ Sound
