@@ -111,3 +111,13 @@ waitingMost = leafMost * queueRoom
 -- the most that one record prints: a line r, an id of 10 digits and its blank, and a line feed for each
 abbrev pub lineRoom : ℕ
 lineRoom = waitingMost * 13
+
+-- ---- the letters I, W and D of the replay's lines: issued, waits, on debt
+abbrev pub letterI : ℕ
+letterI = 73
+
+abbrev pub letterW : ℕ
+letterW = 87
+
+abbrev pub letterD : ℕ
+letterD = 68

@@ -1,15 +1,17 @@
 -- Refusal numbers: the number of each, and for each entry what it checks, in the table's order.
 -- Assumes nothing.
-use mathlib.Core.Bool.{Bool, true, false, cond, not, _&&_}
+use mathlib.Core.Bool.{Bool, true, false, cond, not, _&&_, _||_}
 use mathlib.Core.List.{List, [], _∷_, _++_}
 use Prim.Native.Nat.{ℕ, _+_}
 use lib.Dec.{eqb, leb, ltb}
-use Rattle.rules.specs.Numbers.{costMost, queueRoom, debtMost, elapsedMost, vtimeMost, sinceMost}
+use lib.ListN.{length, getD, drop}
+use Rattle.rules.specs.Numbers.{costMost, queueRoom, debtMost, elapsedMost, vtimeMost, sinceMost, letterI, letterW, letterD}
 use Rattle.rules.specs.Cost.{ratesInRange, bioInRange, costOf}
 use Rattle.rules.specs.Tree.{treeFault, newestFault, isThin, isLeaf}
 use Rattle.rules.specs.Budget.{rowAt, queueAt, wouldBe}
 use Rattle.rules.specs.Tick.{growth, waitingAll}
 use Rattle.rules.specs.Plan.{vrateInRange}
+use Rattle.rules.specs.Trace.{isKind, layout, kindOf, fieldsOf, recordBytes, fieldsFrom, behind}
 use Rattle.rules.specs.declared.units.Abs.{Abs}
 use Rattle.rules.specs.declared.cost.Rates.{Rates}
 use Rattle.rules.specs.declared.cost.Model.{Model}
@@ -32,6 +34,7 @@ use Rattle.rules.specs.declared.refusals.Pricing.{Pricing}
 use Rattle.rules.specs.declared.refusals.Pricing.the-variants.{Priced, Refused as Unpriced}
 use Rattle.rules.specs.declared.refusals.Costing.{Costing}
 use Rattle.rules.specs.declared.refusals.Costing.the-variants.{Costs, Refused as Uncosted}
+use Rattle.rules.specs.declared.trace.Record.{Record}
 use Rattle.rules.specs.declared.trace.Read.{Read}
 use Rattle.rules.specs.declared.trace.Read.the-variants.{Found, End, Refused as Unread}
 use Rattle.rules.specs.declared.trace.Write.{Write}
@@ -104,6 +107,82 @@ abbrev pub writeNumber : Write → ℕ
 writeNumber (Wrote n) = 0
 writeNumber (Unwritten x) = number x
 
+-- ---- and its values, none where it is a refusal: the letter that the replay prints for it
+abbrev pub answerValues : Answer → List ℕ
+answerValues Issued = letterI ∷ []
+answerValues Waits = letterW ∷ []
+answerValues OnDebt = letterD ∷ []
+answerValues (Declined x) = []
+
+-- how many were released
+abbrev pub countValues : Count·Answer → List ℕ
+countValues (Released n) = n ∷ []
+countValues (Unticked x) = []
+
+-- what each direction costs: a page, and the bases
+abbrev pub modelValues : Model → List ℕ
+modelValues m =
+    m .read .page .0 ∷ m .read .sequential .0 ∷ m .read .random .0
+    ∷ m .write .page .0 ∷ m .write .sequential .0 ∷ m .write .random .0
+    ∷ []
+
+abbrev pub pricingValues : Pricing → List ℕ
+pricingValues (Priced m) = modelValues m
+pricingValues (Unpriced x) = []
+
+abbrev pub costingValues : Costing → List ℕ
+costingValues (Costs cost) = cost .0 ∷ []
+costingValues (Uncosted x) = []
+
+-- the record, by its kind and its numbers, with the place behind it
+abbrev pub readValues : Read → List ℕ
+readValues (Found r next) = kindOf r ∷ fieldsOf r ++ (next ∷ [])
+readValues End = []
+readValues (Unread x) = []
+
+-- how many bytes were written
+abbrev pub writeValues : Write → List ℕ
+writeValues (Wrote n) = n ∷ []
+writeValues (Unwritten x) = []
+
+-- ---- both together: an answer as the paper has it
+pub record Paper : Type 0 where
+  pub number : ℕ
+  pub values : List ℕ
+
+abbrev pub paper : ℕ → List ℕ → Paper
+paper n vs = record { number = n; values = vs }
+
+abbrev pub answerPaper : Answer → Paper
+answerPaper a = paper (answerNumber a) (answerValues a)
+
+abbrev pub countPaper : Count·Answer → Paper
+countPaper a = paper (countNumber a) (countValues a)
+
+abbrev pub pricingPaper : Pricing → Paper
+pricingPaper a = paper (pricingNumber a) (pricingValues a)
+
+abbrev pub costingPaper : Costing → Paper
+costingPaper a = paper (costingNumber a) (costingValues a)
+
+abbrev pub readPaper : Read → Paper
+readPaper a = paper (readNumber a) (readValues a)
+
+abbrev pub writePaper : Write → Paper
+writePaper a = paper (writeNumber a) (writeValues a)
+
+-- "Each returns its number": that of the first check that holds, and 0 where none does
+abbrev pub due : List Check → ℕ
+due ks = verdictNumber (firstOf ks)
+
+abbrev pub unless : Verdict → List ℕ → List ℕ
+unless Accepted vs = vs
+unless (Refused x) vs = []
+
+-- what an entry says that has these checks, and these values to give where none holds
+abbrev pub paperOf : List Check → List ℕ → Paper
+paperOf ks vs = paper (due ks) (unless (firstOf ks) vs)
+
 -- the numbers of a list of checks, in its order
 abbrev pub numbersOf : List Check → List ℕ
 numbersOf [] = []
@@ -173,3 +252,20 @@ planChecks c = (eqb (c .clock .since .0) 0 ⇒ NothingPassed) ∷ []
 
 unfoldable pub vrateChecks : ℕ → List Check
 vrateChecks v = (not (vrateInRange v) ⇒ BadVrate) ∷ []
+
+-- 16 and 17 of a place; at the end neither holds
+unfoldable pub readChecks : List ℕ → ℕ → List Check
+readChecks trace at =
+    (ltb at (length trace) && not (isKind (getD trace at 0)) ⇒ UnknownKind)
+    ∷ (ltb (length trace) at || ltb at (length trace) && ltb (length trace) (behind (getD trace at 0) at) ⇒ CutShort)
+    ∷ []
+
+-- what a trace has at a place: a kind and its numbers, with the place behind them; at the end nothing
+unfoldable pub valuesAt : List ℕ → ℕ → List ℕ
+valuesAt trace at =
+    cond (ltb at (length trace))
+    (getD trace at 0 ∷ fieldsFrom (layout (getD trace at 0)) (drop (at + 1) trace) ++ (behind (getD trace at 0) at ∷ []))
+    []
+
+unfoldable pub writeChecks : Record → List ℕ → List Check
+writeChecks r lent = (ltb (length lent) (length (recordBytes r)) ⇒ ShortBuffer) ∷ []

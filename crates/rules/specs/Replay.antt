@@ -5,7 +5,7 @@ use mathlib.Core.List.{List, [], _∷_, _++_}
 use Prim.Native.Nat.{ℕ, zero, suc, _+_, _/_, _%_}
 use lib.Dec.{eqb, leb, ltb}
 use lib.ListN.{length, take, set, replicate}
-use Rattle.rules.specs.Numbers.{nodesMost, leafMost, waitingMost}
+use Rattle.rules.specs.Numbers.{nodesMost, leafMost, waitingMost, letterI, letterW, letterD}
 use Rattle.rules.specs.Words.{joinTo, has}
 use Rattle.rules.specs.Budget.{fresh, shareAt}
 use Rattle.rules.specs.Refusals.{number, firstOf, nodeChecks, rateChecks}
@@ -52,9 +52,9 @@ unfoldable pub refusalLine : Refusal → List ℕ
 refusalLine x = line 82 (number x ∷ [])
 
 unfoldable pub answerLine : Answer → ℕ → List ℕ
-answerLine Issued id = line 73 (id ∷ [])
-answerLine Waits id = line 87 (id ∷ [])
-answerLine OnDebt id = line 68 (id ∷ [])
+answerLine Issued id = line letterI (id ∷ [])
+answerLine Waits id = line letterW (id ∷ [])
+answerLine OnDebt id = line letterD (id ∷ [])
 answerLine (Declined x) id = refusalLine x
 
 abbrev pub releaseLines : List ℕ → List ℕ

@@ -340,6 +340,29 @@ found-fits trace at r next bytes e =
     rw (f .it, kind-of-record (fieldsFrom (layout kind) body) kind (f .known), fields-of-record body kind (f .known))
     (fields-fit (layout kind) body (bytes-drop (at + 1) trace bytes) left)
 
+-- ---- the same over the entries' own words: what is written into a buffer is read at its front ..
+pub what-is-written-reads-back : (r : Record) (lent : List ℕ) (n : ℕ) → Fits r → writing r lent ≡ Wrote n → readAt (writtenTo r lent) 0 ≡ Found r n
+unfolding writing writtenTo
+what-is-written-reads-back r lent n fits = go (ltb (length lent) (length (recordBytes r)))
+  where
+    go : (b : Bool) → cond b (Unwritten ShortBuffer) (Wrote (length (recordBytes r))) ≡ Wrote n
+        → readAt (cond b lent (recordBytes r ++ drop (length (recordBytes r)) lent)) 0 ≡ Found r n
+    go true e = never (cc)
+    go false e =
+        let long : length (recordBytes r) ≡ n = cc in
+        rw (← long) (written-reads-back (drop (length (recordBytes r)) lent) r fits)
+
+-- .. and what is read is written as the bytes that it was read from, and leaves those behind it
+pub what-is-read-writes-back : (trace lent : List ℕ) (at : ℕ) (r : Record) (next : ℕ) → Bytes trace → readAt trace at ≡ Found r next
+    → next - at ≤ length lent
+    → (writing r lent ≡ Wrote (next - at)) × (writtenTo r lent ≡ take (next - at) (drop at trace) ++ drop (next - at) lent)
+unfolding writing writtenTo
+what-is-read-writes-back trace lent at r next bytes e room =
+    let same : recordBytes r ≡ take (next - at) (drop at trace) = sym (read-writes-back trace at r next bytes e) in
+    let f = found-only-whole trace at r next e in
+    let long : length (recordBytes r) ≡ next - at = rw same (simp (length-take, length-drop) (omega (arith, f .to, f .inside))) in
+    rw (long, le-ltb (length lent) (next - at) room, same) (refl, refl)
+
 -- ---- a whole trace
 
 -- the records written one behind the other
