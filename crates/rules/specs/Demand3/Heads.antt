@@ -1,18 +1,21 @@
 -- Each head of the ledger is what the answers and the states say, of one call upon any sound state: whose bios are released,
 -- which ids are written where, what counts as issued, what is repaid, forgiven and generated, and that a refusal counts nothing.
 -- Assumes nothing.
-use mathlib.Core.Path.{_≡_, refl, ap, _∙_}
+use mathlib.Core.Path.{_≡_, refl, sym, ap, _∙_}
 use mathlib.Core.Bool.{Bool, true, false, cond, _&&_}
 use mathlib.Core.List.{List, _++_}
-use mathlib.Core.Logic.{_⊎_, _≢_}
+use mathlib.Core.Logic.{_⊎_, inl, inr, _≢_}
 use Prim.Native.Nat.{ℕ, suc, _+_, _*_, _≤_, _<_, min}
 use native.Mathlib.Nat.{zero-add, min-le-left}
 use native.Mathlib.Omega.{arith}
+use lib.Dec.{eqb}
+use borrow.Author.Tests.{eqb-true, eqb-false}
 use lib.ListN.{length, getD, drop, length-append, length-drop, List·getD-append}
 use lib.Seq.{getD-append-add, getD-drop}
 use Rattle.rules.specs.Numbers.{leafMost}
 use Rattle.rules.specs.Words.{sumTo, has, noNode}
 use Rattle.rules.specs.Units.{virt, FLOOR, relative, repayable}
+use Rattle.rules.specs.Tree.{isLeaf}
 use Rattle.rules.specs.Budget.{rowAt, queueAt, shareAt, popped, oldestCost, reshared, rebased, activated, entered, endsDonation, applied, settled, submission, wouldBe}
 use Rattle.rules.specs.Tick.{growth, advanced, gained, repayment, repaid as repaying, turn, turnOf, releases, lentAfter, tick as ticking}
 use Rattle.rules.specs.Plan.{usageAll, isDonation, donated, closed, shared, plan as planning}
@@ -20,15 +23,17 @@ use Rattle.rules.specs.Refusals.{firstOf, submitChecks, tickChecks, plan
 use Rattle.rules.specs.Entries.{submitted, submittedBy, ticked, tickedBy, lentOf, lentBy, planned, plannedBy, vrated, vratedBy}
 use Rattle.rules.specs.Invariant.{Sound}
 use Rattle.rules.specs.Demand3.Ledger.{Call, after, costWaiting, costOfFirst, idWaiting, idsOfFirst, waiting, owed, ifTaken, ifIssued, ifWaits, ifOnDebt, costOn, ifAccepted, releasedAt, repaidAt, accepted, issued, released, repaid, forgiven, generated}
+use Rattle.rules.specs.Laws.Bools.{is-false, true-not-false}
+use Rattle.rules.specs.Laws.Trees.{root-no-leaf, leaf-last, last-most}
 use Rattle.rules.specs.Laws.Sums.{length-join, join-within, join-at}
 use Rattle.rules.specs.Laws.Tables.{getD-table}
 use Rattle.rules.specs.Laws.Queues.{popped-cost, popped-id}
 use Rattle.rules.specs.Laws.Rows.{keepAll, released-moves-up, turn-releases-all}
 use Rattle.rules.specs.Laws.States.{share-pos}
-use Rattle.rules.specs.Laws.Ticks.{active-turn, active-repays, idle-repays, leaf-tick, tick-row, tick-queue, tick-releases-fit}
+use Rattle.rules.specs.Laws.Ticks.{active-turn, active-repays, idle-repays, idle-releases, leaf-tick, tick-row, tick-queue, tick-releases-fit}
 use Rattle.rules.specs.Laws.Plans.{half-of-a-debt-is-forgiven-when-quiet, nothing-is-forgiven-when-busy}
 use Rattle.rules.specs.Laws.Submits.{costIn, cost-here, cost-elsewhere, none-issued as issues-none, submit-waiting, submit-owed}
-use Rattle.rules.specs.Laws.Refused.{submit-refuses-exactly-when, tick-refuses-exactly-when, plan-refuses, a-refused-bio-changes-nothing, a-refused-tick-changes-nothing, a-refused-plan-changes-nothing, a-refused-vrate-changes-nothing}
+use Rattle.rules.specs.Laws.Refused.{refusal-4-exactly-when, submit-refuses-exactly-when, tick-refuses-exactly-when, plan-refuses, a-refused-bio-changes-nothing, a-refused-tick-changes-nothing, a-refused-plan-changes-nothing, a-refused-vrate-changes-nothing}
 use Rattle.rules.specs.declared.units.Virt.{Virt}
 use Rattle.rules.specs.declared.cost.Bio.{Bio}
 use Rattle.rules.specs.declared.budget.Row.{Row}
@@ -36,6 +41,7 @@ use Rattle.rules.specs.declared.budget.Queue.{Queue}
 use Rattle.rules.specs.declared.budget.Clock.{Clock}
 use Rattle.rules.specs.declared.budget.Controller.{Controller}
 use Rattle.rules.specs.declared.refusals.Refusal.{Refusal}
+use Rattle.rules.specs.declared.refusals.Refusal.the-variants.{NoLeaf}
 use Rattle.rules.specs.declared.refusals.Verdict.{Verdict}
 use Rattle.rules.specs.declared.refusals.Verdict.the-variants.{Accepted, Refused}
 use Rattle.rules.specs.declared.refusals.Answer.{Answer}
@@ -205,6 +211,44 @@ module _ {c : Controller} (sound : Sound c) (n : ℕ) where
 
   pub nothing-is-forgiven-else : c .clock .since .0 ≤ 2 * usageAll c .0 → forgiven Call.plan c n ≡ 0
   nothing-is-forgiven-else busy = nothing-is-forgiven-when-busy sound busy n .0
+
+-- ---- charged: a node that is no leaf is never charged, so the sum over the nodes 1 to 63 leaves nothing out
+module _ {c : Controller} (sound : Sound c) (n : ℕ) (other : isLeaf (c .tree) n ≡ false) where
+  none-issued-there : (b : Bio) → issued (Call.submit b) c n ≡ 0
+  unfolding issued
+  none-issued-there b = go (eqb (b .node) n) refl
+    where
+      go : (t : Bool) → eqb (b .node) n ≡ t → ifIssued (submitted b c .answer) (costOn n b c) ≡ 0
+      go true h =
+          let refused : submitted b c .answer ≡ Declined NoLeaf = refusal-4-exactly-when b c .1 (rw (eqb-true (b .node) n h) other) in
+          rw refused
+      go false h = rw (cost-elsewhere b c n (λ e. eqb-false (b .node) n h (sym e))) (issues-none (submitted b c .answer))
+
+  idle-there : has (c .active) n ≡ false
+  idle-there = is-false (has (c .active) n) (λ e. true-not-false (sound .active n e) other)
+
+  nothing-if-accepted : (v : Verdict) (x : ℕ) → x ≡ 0 → ifAccepted v x ≡ 0
+  nothing-if-accepted Accepted x e = e
+  nothing-if-accepted (Refused r) x e = refl
+
+  pub only-leaves-are-charged : (k : Call) → issued k c n + released k c n + repaid k c n ≡ 0
+  unfolding released repaid issued
+  only-leaves-are-charged (Call.submit b) = omega (arith, none-issued-there b)
+  only-leaves-are-charged (Call.tick time lent) =
+      omega (
+        arith,
+        nothing-if-accepted (firstOf (tickChecks time (length lent) c)) _ (idle-releases (growth (c .clock) time) c n idle-there),
+        nothing-if-accepted (firstOf (tickChecks time (length lent) c)) _ (idle-repays (growth (c .clock) time) c n idle-there),
+      )
+  only-leaves-are-charged Call.plan = omega arith
+  only-leaves-are-charged (Call.vrate v) = omega arith
+
+pub no-node-outside-the-sum-is-charged : (k : Call) {c : Controller} → Sound c → (n : ℕ) → (n ≡ 0) ⊎ (leafMost < n)
+    → issued k c n + released k c n + repaid k c n ≡ 0
+no-node-outside-the-sum-is-charged k {c} sound n (inl e) = only-leaves-are-charged sound n (rw e (root-no-leaf (c .tree))) k
+no-node-outside-the-sum-is-charged k {c} sound n (inr l) =
+    only-leaves-are-charged sound n
+    (is-false (isLeaf (c .tree) n) (λ e. omega (arith, leaf-last (c .tree) n e, last-most (sound .tree)))) k
 
 -- ---- generated: the growth of virtual time
 entering-keeps-the-clock : (n : ℕ) (c : Controller) → entered n c .clock ≡ c .clock
