@@ -13,7 +13,7 @@ use Rattle.rules.specs.Cost.{priced, costOf}
 use Rattle.rules.specs.Budget.{wouldBe, submission}
 use Rattle.rules.specs.Tick.{growth, releases}
 use Rattle.rules.specs.Trace.{layout, recordBytes, writing, fieldsFrom, behind, readAt}
-use Rattle.rules.specs.Refusals.{_⇒_, Paper, paper, paperOf, due, unless, numbersOf, firstOf, verdictNumber, answerValues, modelValues, answerPaper, countPaper, pricingPaper, costingPaper, readPaper, writePaper, treeChecks, nodeChecks, rateChecks, startChecks, costChecks, roomChecks, submitChecks, tickChecks, planChecks, vrateChecks, readChecks, valuesAt, writeChecks}
+use Rattle.rules.specs.Refusals.{_⇒_, paper, paperOf, due, unless, numbersOf, firstOf, verdictNumber, answerValues, modelValues, answerPaper, countPaper, pricingPaper, costingPaper, readPaper, writePaper, treeChecks, nodeChecks, rateChecks, startChecks, costChecks, roomChecks, submitChecks, tickChecks, planChecks, vrateChecks, readChecks, valuesAt, writeChecks}
 use Rattle.rules.specs.Entries.{pricingBy, pricing, treeVerdict, costingBy, costing, started, submittedBy, submitted, tickedBy, ticked, plannedBy, planned, vratedBy, vrated}
 use Rattle.rules.specs.Laws.Passes.{start-answers}
 use Rattle.rules.specs.Laws.Answers.{answer-is-no-refusal}
