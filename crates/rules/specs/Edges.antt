@@ -4,7 +4,7 @@
 use mathlib.Core.Path.{_≡_, refl}
 use mathlib.Core.Bool.{Bool, true, false, cond, _&&_}
 use mathlib.Core.List.{List, [], _∷_, _++_}
-use Prim.Native.Nat.{ℕ, _+_, _-_, _^_}
+use Prim.Native.Nat.{ℕ, _+_, _-_, _*_, _^_}
 use lib.Dec.{eqb}
 use lib.ListN.{getD, replicate, take}
 use Rattle.rules.specs.Words.{tableFrom, has, noNode}
@@ -18,6 +18,7 @@ use Rattle.rules.specs.Refusals.{Check, firstOf, isFault, verdictNumber,
 use Rattle.rules.specs.Entries.{costing, started, submitted, ticked, lentOf, planned, vrated, slowest}
 use Rattle.rules.specs.Trace.{recordBytes, writing, readAt}
 use Rattle.rules.specs.Replay.{digits, shareLines, inPhase, beginning, grown, Step, stepped, nextPlace, tickCall, replay, within, rootTree}
+use Rattle.rules.specs.Demand3.Ledger.{Call, costWaiting, costOfFirst, waiting, owed, costOn, releasedAt, repaidAt, forgivenAt, accepted, issued, released, repaid, forgiven, generated, charged, saved}
 use Rattle.rules.specs.declared.cost.Price.{Price}
 use Rattle.rules.specs.declared.cost.Model.{Model}
 use Rattle.rules.specs.declared.units.Abs.{Abs}
@@ -34,7 +35,7 @@ use Rattle.rules.specs.declared.trace.Read.the-variants.{Found}
 use Rattle.rules.specs.declared.replay.Phase.{Phase}
 use Rattle.rules.specs.declared.replay.Phase.the-variants.{Setup, Priced, Running, Stopped}
 use Rattle.rules.specs.declared.replay.Replay.{Replay}
-use Rattle.rules.specs.Bench.{computed, bytesOfAll, B, ratesM, M, bio, atZero, costNumber, tree, tree5, tree6, runTree, running, saved, used, state9, letter, plan10, allRight, Case}
+use Rattle.rules.specs.Bench.{computed, bytesOfAll, B, ratesM, M, bio, atZero, costNumber, tree, tree5, tree6, runTree, running, saved as savedRow, used, state9, letter, plan10, allRight, Case}
 
 -- ---- the edges: each number of document 01, on it and one past it, and small cases of what B1 to B12 do not reach
 abbrev is : Bool → Case
@@ -84,11 +85,11 @@ clocked vtime since n =
 
 -- B9's leaf with an older bio that waits
 abbrev behind9 : ℕ → Controller
-behind9 budget = putLeaf 1 (saved budget) (holding 1) (state9 budget)
+behind9 budget = putLeaf 1 (savedRow budget) (holding 1) (state9 budget)
 
 -- one bio waits of the first leaf and two of the second
 abbrev both9 : Controller
-both9 = putLeaf 2 (saved 0) (holding 2) (behind9 0)
+both9 = putLeaf 2 (savedRow 0) (holding 2) (behind9 0)
 
 -- the same leaves while the first is a donor
 abbrev donating9 : Controller
@@ -137,9 +138,9 @@ edges =
     ∷ gives 0 (tickChecks 0 3 both9) ∷ gives 13 (tickChecks 0 2 both9)
     ∷ gives 0 (planChecks (clocked 0 1 0)) ∷ gives 14 (planChecks (clocked 0 0 0))
     ∷ is (vrateInRange 1) ∷ isNot (vrateInRange 0) ∷ is (vrateInRange 400) ∷ isNot (vrateInRange 401)
-    ∷ B 0 (capped (saved (2 ^ 27)) emptyQueue .budget .0) (2 ^ 27)
-    ∷ B 0 (capped (saved (2 ^ 27 + 1)) emptyQueue .budget .0) (2 ^ 27)
-    ∷ B 0 (capped (saved (2 ^ 27 + 1)) (holding 1) .budget .0) (2 ^ 27 + 1)
+    ∷ B 0 (capped (savedRow (2 ^ 27)) emptyQueue .budget .0) (2 ^ 27)
+    ∷ B 0 (capped (savedRow (2 ^ 27 + 1)) emptyQueue .budget .0) (2 ^ 27)
+    ∷ B 0 (capped (savedRow (2 ^ 27 + 1)) (holding 1) .budget .0) (2 ^ 27 + 1)
     ∷ B 0 (targetOf (virt 1000000) (abs 0)) 1024
     ∷ is (isQuiet (abs 49) (virt 100)) ∷ isNot (isQuiet (abs 50) (virt 100))
     ∷ is (quietIn (running tree5 (used 20 ∷ used 29 ∷ []) 100)) ∷ isNot (quietIn (running tree5 (used 20 ∷ used 30 ∷ []) 100))
@@ -339,7 +340,7 @@ books =
     ∷ see (leafNumbers (ticked 11000 (9 ∷ []) owes6 .state) 1) (873741824 ∷ 0 ∷ 33726 ∷ 16281 ∷ 8 ∷ 1 ∷ 0 ∷ 7 ∷ 1 ∷ [])
     ∷ see (leafNumbers (ticked 11000 (9 ∷ []) both6 .state) 1) (873741824 ∷ 1565 ∷ 0 ∷ 15007 ∷ 8 ∷ 1 ∷ 0 ∷ 0 ∷ 0 ∷ [])
     -- the cap comes last: the waiter is released first, and what is then left is capped
-    ∷ see (rowNumbers (turn (virt (2 ^ 27 + 5)) (2 ^ 30) (saved 0) (holding 1) .row)) (2 ^ 27 ∷ 0 ∷ 0 ∷ 0 ∷ 0 ∷ 1 ∷ [])
+    ∷ see (rowNumbers (turn (virt (2 ^ 27 + 5)) (2 ^ 30) (savedRow 0) (holding 1) .row)) (2 ^ 27 ∷ 0 ∷ 0 ∷ 0 ∷ 0 ∷ 1 ∷ [])
     -- .. and one that owes is not capped
     ∷ see (rowNumbers (capped (row (2 ^ 27 + 1) 1 2 3 true false) emptyQueue)) ((2 ^ 27 + 1) ∷ 1 ∷ 2 ∷ 3 ∷ 1 ∷ 0 ∷ [])
     -- a quiet plan: leaf 1 goes inactive, and leaf 2, alone, holds all: 900,000 x 200,000,000 / 2^30
@@ -361,6 +362,36 @@ books =
 pub books-hold : allSame books ≡ true
 unfolding computed books saved6 waits6 owes6 both6 small6 last63
 books-hold = refl
+
+-- ---- the ledger of the same calls: accepted, issued, released, repaid and forgiven of a leaf, and what is generated
+abbrev heads : Call → Controller → ℕ → List ℕ
+heads k c n = accepted k c n ∷ issued k c n ∷ released k c n ∷ repaid k c n ∷ forgiven k c n ∷ generated k c ∷ []
+
+pub ledger : List Seen
+ledger =
+    -- a bio of leaf 1: issued; waits; goes on debt; refused, since its bytes are no multiple of 512
+    see (heads (Call.submit (bio 1 0 4096)) saved6 1) (20000 ∷ 20000 ∷ 0 ∷ 0 ∷ 0 ∷ 0 ∷ [])
+    ∷ see (heads (Call.submit (bio 1 0 1048576)) saved6 1) (2570000 ∷ 0 ∷ 0 ∷ 0 ∷ 0 ∷ 0 ∷ [])
+    ∷ see (heads (Call.submit (bio 1 2 1048576)) saved6 1) (2570000 ∷ 0 ∷ 0 ∷ 0 ∷ 0 ∷ 0 ∷ [])
+    ∷ see (heads (Call.submit (bio 1 0 513)) saved6 1) (replicate 6 0)
+    -- no other leaf counts
+    ∷ see (heads (Call.submit (bio 1 0 4096)) saved6 2) (replicate 6 0)
+    -- a tick: two are released, or a part is repaid, or all is and then one is released; refused for its buffer
+    ∷ see (heads (Call.tick 11000 (9 ∷ 9 ∷ 9 ∷ [])) waits6 1) (0 ∷ 0 ∷ 40009 ∷ 0 ∷ 0 ∷ 20000 ∷ [])
+    ∷ see (heads (Call.tick 11000 (9 ∷ [])) owes6 1) (0 ∷ 0 ∷ 0 ∷ 16274 ∷ 0 ∷ 20000 ∷ [])
+    ∷ see (heads (Call.tick 11000 (9 ∷ [])) both6 1) (0 ∷ 0 ∷ 5000 ∷ 10000 ∷ 0 ∷ 20000 ∷ [])
+    ∷ see (heads (Call.tick 11000 (9 ∷ [])) waits6 1) (replicate 6 0)
+    -- a quiet plan forgives 3 of 7, and vrate counts nothing
+    ∷ see (heads Call.plan small6 1) (0 ∷ 0 ∷ 0 ∷ 0 ∷ 3 ∷ 0 ∷ [])
+    ∷ see (heads (Call.vrate 300) small6 1) (replicate 6 0)
+    -- what waits, what is owed, what all are charged, and what they have saved
+    ∷ see (waiting waits6 1 ∷ owed owes6 1 ∷ []) (60011 ∷ 50000 ∷ [])
+    ∷ see (charged (Call.tick 11000 (9 ∷ [])) both6 ∷ saved saved6 ∷ []) (15000 ∷ (400000 * 873741824 + 900000 * 200000000) ∷ [])
+    ∷ []
+
+pub ledger-holds : allSame ledger ≡ true
+unfolding computed ledger saved6 waits6 owes6 both6 small6 accepted issued released repaid forgiven generated costOn releasedAt repaidAt forgivenAt costOfFirst costWaiting charged saved
+ledger-holds = refl
 
 -- ---- the replay, by its parts
 -- which of the kinds 1 to 7 are in a phase
