@@ -1,6 +1,7 @@
 -- Numbers on the bench: B1 to B12, shown of the rules themselves by one fact over a single list, the whole case of a trace, and
 -- a run of calls from a fresh start with answers of every kind.
 -- Assumes nothing.
+pub mod Edges
 use mathlib.Core.Path.{_≡_, refl}
 use mathlib.Core.Bool.{Bool, true, false, _&&_}
 use mathlib.Core.List.{List, [], _∷_, _++_}

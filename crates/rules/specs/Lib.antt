@@ -12,7 +12,6 @@ pub mod Trace
 pub mod Replay
 pub mod Chunks
 pub mod Bench
-pub mod Edges
 pub mod Laws
 pub mod Invariant
 pub mod Demand3
