@@ -9,12 +9,12 @@ use lib.Dec.{eqb}
 use lib.ListN.{getD, replicate, take}
 use Rattle.rules.specs.Words.{tableFrom, has, noNode}
 use Rattle.rules.specs.Units.{abs, virt}
-use Rattle.rules.specs.Cost.{bpsInRange, iopsInRange, bytesInRange, sectorInRange, flagsInRange, isNear}
+use Rattle.rules.specs.Cost.{bpsInRange, iopsInRange, bytesInRange, sectorInRange, flagsInRange, isNear, priced}
 use Rattle.rules.specs.Tree.{countInRange, weightInRange, treeFault, newestFault, leavesOf, baseShares}
 use Rattle.rules.specs.Budget.{emptyQueue, emptyRow, fresh, rowAt, queueAt, shareAt, putLeaf, reshared}
 use Rattle.rules.specs.Tick.{growth, capped, turn, releases, waitingAll}
 use Rattle.rules.specs.Plan.{usageAll, isQuiet, targetOf, isDonor, sumOver, quietIn, vrateInRange}
-use Rattle.rules.specs.Refusals.{Check, firstOf, isFault, verdictNumber, readNumber, writeNumber, costChecks, roomChecks, tickChecks, planChecks}
+use Rattle.rules.specs.Refusals.{Check, firstOf, isFault, verdictNumber, readNumber, writeNumber, modelValues, costChecks, roomChecks, tickChecks, planChecks}
 use Rattle.rules.specs.Entries.{costing, started, submitted, ticked, lentOf, planned, vrated, slowest}
 use Rattle.rules.specs.Trace.{recordBytes, writing, readAt}
 use Rattle.rules.specs.Replay.{digits, shareLines, inPhase, beginning, grown, Step, stepped, nextPlace, tickCall, replay, within, rootTree}
@@ -35,7 +35,7 @@ use Rattle.rules.specs.declared.trace.Read.the-variants.{Found}
 use Rattle.rules.specs.declared.replay.Phase.{Phase}
 use Rattle.rules.specs.declared.replay.Phase.the-variants.{Setup, Priced, Running, Stopped}
 use Rattle.rules.specs.declared.replay.Replay.{Replay}
-use Rattle.rules.specs.Bench.{computed, bytesOfAll, B, ratesM, M, bio, atZero, costNumber, tree, tree5, tree6, runTree, running, saved as savedRow, used, state9, letter, plan10, allRight, Case}
+use Rattle.rules.specs.Bench.{computed, bytesOfAll, B, ratesM, M, bio, atZero, costNumber, tree, tree5, tree6, tree7, runTree, running, saved as savedRow, used, state9, letter, plan10, allRight, Case}
 
 -- ---- the edges: each number of document 01, on it and one past it, and small cases of what B1 to B12 do not reach
 abbrev is : Bool → Case
@@ -155,6 +155,7 @@ edges =
     ∷ isNot (isFault (treeFault (tree 2 (0 ∷ []) (1 ∷ [])))) ∷ is (isFault (treeFault (tree 2 (1 ∷ []) (1 ∷ []))))
     ∷ B 0 (read (1 ∷ 0 ∷ 1 ∷ 0 ∷ []) 0) 0 ∷ B 0 (read (7 ∷ 1 ∷ 0 ∷ []) 0) 0 ∷ B 0 (read (0 ∷ []) 0) 16 ∷ B 0 (read (8 ∷ []) 0) 16
     ∷ B 0 (read (1 ∷ 0 ∷ 1 ∷ []) 0) 17 ∷ B 0 (read (1 ∷ 0 ∷ 1 ∷ 0 ∷ []) 4) 0 ∷ B 0 (read (1 ∷ 0 ∷ 1 ∷ 0 ∷ []) 5) 17
+    ∷ B 0 (leavesOf (tree7 1023)) 28 ∷ B 0 (leavesOf (chain 8)) 256
     ∷ B 0 (written 9) 0 ∷ B 0 (written 8) 28
     ∷ isNot (rowAt plan10 2 .accepted)
     ∷ is (isDonor 1023 1024 emptyRow emptyQueue) ∷ isNot (isDonor 1024 1024 emptyRow emptyQueue)
@@ -363,6 +364,25 @@ pub books-hold : allSame books ≡ true
 unfolding computed books saved6 waits6 owes6 both6 small6 last63
 books-hold = refl
 
+-- ---- outside vectors: four devices as Linux presets them, with the prices by document 01: a read's page, sequential base and
+-- random base, and a write's
+abbrev prices : ℕ → ℕ → ℕ → ℕ → ℕ → ℕ → List ℕ
+prices rbps rseqiops rrandiops wbps wseqiops wrandiops =
+    modelValues (priced (record { rbps = rbps; rseqiops = rseqiops; rrandiops = rrandiops; wbps = wbps; wseqiops = wseqiops; wrandiops = wrandiops }))
+
+pub devices : List Seen
+devices =
+    -- hdd, ssd_qd1, ssd_dfl, ssd_fast
+    see (prices 174019176 41708 370 178075866 42705 378) (23538 ∷ 439 ∷ 2679165 ∷ 23002 ∷ 415 ∷ 2622501 ∷ [])
+    ∷ see (prices 245855193 61575 6946 141365009 33716 26796) (16661 ∷ 0 ∷ 127307 ∷ 28975 ∷ 685 ∷ 8345 ∷ [])
+    ∷ see (prices 488636629 8932 8518 427891549 28755 21940) (8383 ∷ 103575 ∷ 109016 ∷ 9573 ∷ 25204 ∷ 36006 ∷ [])
+    ∷ see (prices 3102524156 724816 778122 1742780862 425702 443193) (1321 ∷ 59 ∷ 0 ∷ 2351 ∷ 0 ∷ 0 ∷ [])
+    ∷ []
+
+pub devices-hold : allSame devices ≡ true
+unfolding computed devices
+devices-hold = refl
+
 -- ---- the ledger of the same calls: accepted, issued, released, repaid and forgiven of a leaf, and what is generated
 abbrev heads : Call → Controller → ℕ → List ℕ
 heads k c n = accepted k c n ∷ issued k c n ∷ released k c n ∷ repaid k c n ∷ forgiven k c n ∷ generated k c ∷ []
@@ -411,6 +431,10 @@ at phase = within phase rootTree slowest (beginning .state)
 abbrev after : Record → Phase → Step
 after r phase = stepped (Found r 9) (at phase)
 
+-- a ninth bio of a leaf with 8 waiting
+abbrev refused7 : Step
+refused7 = stepped (Found (BioOf (bio 1 0 4096)) 9) (within Running rootTree slowest (putLeaf 1 (savedRow 0) (holding 8) (state9 0)))
+
 abbrev treeNumbers : Tree → List ℕ
 treeNumbers t = t .count ∷ take 3 (t .parents) ++ take 3 (t .weights)
 
@@ -441,6 +465,8 @@ parts =
     ∷ []
     ) (0 ∷ 1 ∷ 3 ∷ 1 ∷ 3 ∷ 3 ∷ 2 ∷ 2 ∷ 3 ∷ 3 ∷ 2 ∷ [])
     ∷ see (after (ModelOf (ratesM 50000)) Setup .replay .rates .rseqiops ∷ after (Node 0 5) Setup .replay .rates .rseqiops ∷ []) (50000 ∷ 1 ∷ [])
+    -- a bio that is refused 7 prints its number, and the replay goes on
+    ∷ see (refused7 .bytes ++ (phaseNumber (refused7 .replay .phase) ∷ [])) (82 ∷ 32 ∷ 55 ∷ 10 ∷ 2 ∷ [])
     -- a replay that has stopped reads and prints no more
     ∷ see (after Plan Stopped .bytes ++ stepped (readAt (0 ∷ []) 0) (at Stopped) .bytes) []
     -- the next record begins behind the last; there is none at the end, nor where nothing can be read
