@@ -340,6 +340,8 @@ books =
     -- a part is repaid, and nothing is released; all is repaid, and then the waiter is released
     ∷ see (leafNumbers (ticked 11000 (9 ∷ []) owes6 .state) 1) (873741824 ∷ 0 ∷ 33726 ∷ 16281 ∷ 8 ∷ 1 ∷ 0 ∷ 7 ∷ 1 ∷ [])
     ∷ see (leafNumbers (ticked 11000 (9 ∷ []) both6 .state) 1) (873741824 ∷ 1565 ∷ 0 ∷ 15007 ∷ 8 ∷ 1 ∷ 0 ∷ 0 ∷ 0 ∷ [])
+    -- what is left after a part is repaid releases nothing, however little a waiter costs
+    ∷ see (turn (virt 3) (2 ^ 28) (owing 100) (holding 1) .ids) []
     -- the cap comes last: the waiter is released first, and what is then left is capped
     ∷ see (rowNumbers (turn (virt (2 ^ 27 + 5)) (2 ^ 30) (savedRow 0) (holding 1) .row)) (2 ^ 27 ∷ 0 ∷ 0 ∷ 0 ∷ 0 ∷ 1 ∷ [])
     -- .. and one that owes is not capped
