@@ -14,7 +14,7 @@ use Rattle.rules.specs.Words.{sumTo, anyTo, joinTo, tableFrom, has, setT
 use Rattle.rules.specs.Units.{abs, virt, CEIL, relative, repayable, atWhole}
 use Rattle.rules.specs.Cost.{bpsInRange, iopsInRange, ratesInRange, pageCost, baseCost, priceOf, priced, bytesInRange, sectorInRange, flagsInRange, bioInRange, isWrite, isForced, isNear, isSequential, endOf, costAt, costOf}
 use Rattle.rules.specs.Tree.{parent, weight, last, levelIn, level, countInRange, weightInRange, nodeFault, faultTo, treeFault, newestFault, isLeaf, leavesOf, onWayIn, onWay, isActive, childSum, shareIn, shareOf, baseShare, baseShares, isThin}
-use Rattle.rules.specs.Budget.{emptyRow, fresh, rowAt, queueAt, shareAt, withClock, putLeaf, withBudget, rebudget, reshared, rebased, activated, entered, answerTo, rowAfter, queueAfter, endsDonation, answerIn, applied, settled, submission, wouldBe}
+use Rattle.rules.specs.Budget.{emptyRow, freshClock, fresh, rowAt, queueAt, shareAt, withClock, withSharing, withBooks, withTimes, withRate, putLeaf, withBudget, rebudget, reshared, rebased, activated, entered, answerTo, rowAfter, queueAfter, endsDonation, answerIn, applied, settled, submission, wouldBe}
 use Rattle.rules.specs.Tick.{growth, advanced, repayment, repaid, releaseIn, released, capped, turn, turnOf, releases, lentAfter, tick, waitingAll}
 use Rattle.rules.specs.Plan.{usageAll, isQuiet, forgiveness, usedShare, targetOf, isDonor, isTaker, isDonation, sumOver, takenOf, isLowest, remainder, shareGiven, donated, quietIn, activeAfter, targetsIn, donorsIn, closed, shared, plan, vrateInRange}
 use Rattle.rules.specs.Refusals.{verdictNumber, treeChecks, nodeChecks, rateChecks, startChecks, costChecks, roomChecks, submitChecks, tickChecks, planChecks, vrateChecks}
@@ -26,6 +26,7 @@ use Rattle.rules.specs.declared.cost.Model.{Model}
 use Rattle.rules.specs.declared.cost.Bio.{Bio}
 use Rattle.rules.specs.declared.tree.Tree.{Tree}
 use Rattle.rules.specs.declared.budget.Row.{Row}
+use Rattle.rules.specs.declared.budget.Clock.{Clock}
 use Rattle.rules.specs.declared.budget.Controller.{Controller}
 use Rattle.rules.specs.declared.refusals.Costing.{Costing}
 use Rattle.rules.specs.declared.refusals.Costing.the-variants.{Costs, Refused as Uncosted}
@@ -96,21 +97,15 @@ tree7 inside = tree 5 (0 ∷ 0 ∷ 1 ∷ 1 ∷ []) (1 ∷ 1023 ∷ 1 ∷ inside 
 abbrev pub full : Tree → ℕ → ℕ
 full t n = getD (baseShares t (leavesOf t)) n 0
 
+-- ---- a clock at this time, virtual time, E and vrate
+abbrev pub clockAt : ℕ → ℕ → ℕ → ℕ → Clock
+clockAt time vtime since vrate = withRate vrate (withTimes time (virt vtime) (virt since) (freshClock 0))
+
 -- ---- a state with every leaf of a tree active at its base share, with these rows, E and time 0
 abbrev pub running : Tree → List Row → ℕ → Controller
 running t rows since =
-    let c : Controller = fresh t M 0 in
-    record {
-      tree = t;
-      model = M;
-      clock = record { time = 0; vtime = virt since; since = virt since; vrate = 100 };
-      leaves = leavesOf t;
-      active = leavesOf t;
-      donors = noNode;
-      shares = baseShares t (leavesOf t);
-      rows = emptyRow ∷ rows;
-      queues = c .queues;
-    }
+    withBooks (emptyRow ∷ rows) (fresh t M 0 .queues)
+    (withSharing (leavesOf t) noNode (baseShares t (leavesOf t)) (withClock (clockAt 0 since since 100) (fresh t M 0)))
 
 abbrev pub saved : ℕ → Row
 saved b = record { budget = virt b; debt = abs 0; usage = abs 0; end = 0; begun = false; accepted = true }
@@ -344,8 +339,7 @@ run-reaches = (refl, refl, refl, refl)
 
 -- 11: a state at another virtual time, which the ticks of no list of a bearable length bring about
 abbrev pub aged : ℕ → Controller → Controller
-aged vtime c =
-    withClock (record { time = c .clock .time; vtime = virt vtime; since = c .clock .since; vrate = c .clock .vrate }) c
+aged vtime c = withClock (withTimes (c .clock .time) (virt vtime) (c .clock .since) (c .clock)) c
 
 -- a nanosecond more is 4 of virtual time
 pub limit-answers : (reply (Call.tick 2000500003 []) (aged (2 ^ 60 - 4) (upTo 585)) ≡ toTick (Released 0) [])

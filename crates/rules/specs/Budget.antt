@@ -60,6 +60,7 @@ queueAt c n = getD (c .queues) n emptyQueue
 abbrev pub shareAt : Controller → ℕ → ℕ
 shareAt c n = getD (c .shares) n 0
 
+-- ---- the state with other parts: who writes a part goes by these, so that a field more is a line here and in the fresh state
 abbrev pub withClock : Clock → Controller → Controller
 withClock clock c = record {
   tree = c .tree;
@@ -73,8 +74,21 @@ withClock clock c = record {
   queues = c .queues;
 }
 
-abbrev pub putLeaf : ℕ → Row → Queue → Controller → Controller
-putLeaf n row queue c = record {
+abbrev pub withSharing : ℕ → ℕ → List ℕ → Controller → Controller
+withSharing active donors shares c = record {
+  tree = c .tree;
+  model = c .model;
+  clock = c .clock;
+  leaves = c .leaves;
+  active = active;
+  donors = donors;
+  shares = shares;
+  rows = c .rows;
+  queues = c .queues;
+}
+
+abbrev pub withBooks : List Row → List Queue → Controller → Controller
+withBooks rows queues c = record {
   tree = c .tree;
   model = c .model;
   clock = c .clock;
@@ -82,9 +96,19 @@ putLeaf n row queue c = record {
   active = c .active;
   donors = c .donors;
   shares = c .shares;
-  rows = set (c .rows) n row;
-  queues = set (c .queues) n queue;
+  rows = rows;
+  queues = queues;
 }
+
+abbrev pub putLeaf : ℕ → Row → Queue → Controller → Controller
+putLeaf n row queue c = withBooks (set (c .rows) n row) (set (c .queues) n queue) c
+
+-- ---- the clock with other parts
+abbrev pub withTimes : ℕ → Virt → Virt → Clock → Clock
+withTimes time vtime since k = record { time = time; vtime = vtime; since = since; vrate = k .vrate }
+
+abbrev pub withRate : ℕ → Clock → Clock
+withRate vrate k = record { time = k .time; vtime = k .vtime; since = k .since; vrate = vrate }
 
 -- ---- "Each leaf has room ..": a ring, whose places out of use keep what they had
 abbrev pub pushed : ℕ → Abs → Queue → Queue
@@ -117,6 +141,15 @@ abbrev pub withUsage : Abs → Row → Row
 withUsage u r =
     record { budget = r .budget; debt = r .debt; usage = u; end = r .end; begun = r .begun; accepted = r .accepted }
 
+abbrev pub withAccepted : Bool → Row → Row
+withAccepted a r =
+    record { budget = r .budget; debt = r .debt; usage = r .usage; end = r .end; begun = r .begun; accepted = a }
+
+-- where a leaf's last bio ended: so it had one
+abbrev pub withEnd : ℕ → Row → Row
+withEnd e r =
+    record { budget = r .budget; debt = r .debt; usage = r .usage; end = e; begun = true; accepted = r .accepted }
+
 -- the budget falls: only virtual time is taken from it
 abbrev pub spent : Virt → Row → Row
 spent v r = withBudget (virt (r .budget .0 - v .0)) r
@@ -127,8 +160,7 @@ charged cost share r = withUsage (abs (r .usage .0 + cost .0)) (spent (relative 
 
 -- an accepted bio moves the leaf's end and is its first, if it had none (DECISIONS 9)
 abbrev pub noted : Bio → Row → Row
-noted b r =
-    record { budget = r .budget; debt = r .debt; usage = r .usage; end = endOf b; begun = true; accepted = true }
+noted b r = withAccepted true (withEnd (endOf b) r)
 
 abbrev pub owes : Row → Bool
 owes r = ltb 0 (r .debt .0)
@@ -145,17 +177,9 @@ rebudget h k b = cond (ltb h k) (virt (FLOOR (b .0 * h) k)) b
 
 -- the state with other active leaves, donors and shares; each budget follows its share
 unfoldable pub reshared : ℕ → ℕ → List ℕ → Controller → Controller
-reshared active donors shares c = record {
-  tree = c .tree;
-  model = c .model;
-  clock = c .clock;
-  leaves = c .leaves;
-  active = active;
-  donors = donors;
-  shares = shares;
-  rows = table (λ n. withBudget (rebudget (shareAt c n) (getD shares n 0) (rowAt c n .budget)) (rowAt c n));
-  queues = c .queues;
-}
+reshared active donors shares c =
+    withSharing active donors shares
+    (withBooks (table (λ n. withBudget (rebudget (shareAt c n) (getD shares n 0) (rowAt c n .budget)) (rowAt c n))) (c .queues) c)
 
 -- a donation ends and base shares are worked out anew: no donor, and base shares among the active leaves
 unfoldable pub rebased : ℕ → Controller → Controller

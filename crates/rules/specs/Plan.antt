@@ -9,7 +9,7 @@ use Rattle.rules.specs.Numbers.{WHOLE, leafMost, shareFloor, vrateLeast,
 use Rattle.rules.specs.Words.{sumTo, anyTo, table, has, setOf, noNode}
 use Rattle.rules.specs.Units.{abs, virt, CEIL, FLOOR, atWhole}
 use Rattle.rules.specs.Tree.{baseShares}
-use Rattle.rules.specs.Budget.{rowAt, queueAt, withClock, owes, waits, withBudget, withDebt, reshared}
+use Rattle.rules.specs.Budget.{rowAt, queueAt, withClock, withBooks, withTimes, withRate, owes, waits, withBudget, withDebt, withUsage, withAccepted, reshared}
 use Rattle.rules.specs.declared.units.Abs.{Abs}
 use Rattle.rules.specs.declared.units.Virt.{Virt}
 use Rattle.rules.specs.declared.budget.Row.{Row}
@@ -90,17 +90,10 @@ donated active donors bases targets =
 
 -- ---- "5. .. E and usages start at 0"; the budget follows its share in `reshared`
 abbrev pub restarted : Row → Row
-restarted r = record {
-  budget = r .budget;
-  debt = r .debt;
-  usage = abs 0;
-  end = r .end;
-  begun = r .begun;
-  accepted = false;
-}
+restarted r = withAccepted false (withUsage (abs 0) r)
 
 abbrev pub restartedClock : Clock → Clock
-restartedClock k = record { time = k .time; vtime = k .vtime; since = virt 0; vrate = k .vrate }
+restartedClock k = withTimes (k .time) (k .vtime) (virt 0) k
 
 -- ---- the plan, step by step
 unfoldable pub quietIn : Controller → Bool
@@ -118,17 +111,9 @@ donorsIn quiet active bases targets c =
 
 -- the books and the clock once the plan is over; the shares are still those held before
 unfoldable pub closed : Bool → ℕ → Controller → Controller
-closed quiet active c = record {
-  tree = c .tree;
-  model = c .model;
-  clock = restartedClock (c .clock);
-  leaves = c .leaves;
-  active = c .active;
-  donors = c .donors;
-  shares = c .shares;
-  rows = table (λ n. restarted (rested (has active n) (forgiven quiet (rowAt c n))));
-  queues = c .queues;
-}
+closed quiet active c =
+    withClock (restartedClock (c .clock))
+    (withBooks (table (λ n. restarted (rested (has active n) (forgiven quiet (rowAt c n))))) (c .queues) c)
 
 unfoldable pub shared : ℕ → ℕ → List ℕ → List ℕ → Controller → Controller
 shared active donors bases targets c =
@@ -150,4 +135,4 @@ unfoldable pub vrateInRange : ℕ → Bool
 vrateInRange v = leb vrateLeast v && leb v vrateMost
 
 abbrev pub withVrate : ℕ → Controller → Controller
-withVrate v c = withClock (record { time = c .clock .time; vtime = c .clock .vtime; since = c .clock .since; vrate = v }) c
+withVrate v c = withClock (withRate v (c .clock)) c

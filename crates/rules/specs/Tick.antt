@@ -8,7 +8,7 @@ use lib.ListN.{length, drop}
 use Rattle.rules.specs.Numbers.{leafMost, idleCap}
 use Rattle.rules.specs.Words.{sumTo, joinTo, table, has}
 use Rattle.rules.specs.Units.{abs, virt, FLOOR, repayable}
-use Rattle.rules.specs.Budget.{rowAt, queueAt, shareAt, popped, oldestId, oldestCost, withBudget, withDebt, charged, owes, waits, fits}
+use Rattle.rules.specs.Budget.{rowAt, queueAt, shareAt, withClock, withBooks, withTimes, popped, oldestId, oldestCost, withBudget, withDebt, charged, owes, waits, fits}
 use Rattle.rules.specs.declared.units.Abs.{Abs}
 use Rattle.rules.specs.declared.units.Virt.{Virt}
 use Rattle.rules.specs.declared.budget.Row.{Row}
@@ -21,12 +21,7 @@ unfoldable pub growth : Clock → ℕ → Virt
 growth k time = virt (FLOOR ((time - k .time) * k .vrate) 100)
 
 unfoldable pub advanced : ℕ → Clock → Clock
-advanced time k = record {
-  time = time;
-  vtime = virt (k .vtime .0 + growth k time .0);
-  since = virt (k .since .0 + growth k time .0);
-  vrate = k .vrate;
-}
+advanced time k = withTimes time (virt (k .vtime .0 + growth k time .0)) (virt (k .since .0 + growth k time .0)) k
 
 -- ---- one active leaf
 -- "the budget gains that amount"
@@ -90,17 +85,12 @@ unfoldable pub lentAfter : List ℕ → List ℕ → List ℕ
 lentAfter ids lent = ids ++ drop (length ids) lent
 
 unfoldable pub tick : ℕ → Controller → Controller
-tick time c = record {
-  tree = c .tree;
-  model = c .model;
-  clock = advanced time (c .clock);
-  leaves = c .leaves;
-  active = c .active;
-  donors = c .donors;
-  shares = c .shares;
-  rows = table (λ n. turnOf (growth (c .clock) time) c n .row);
-  queues = table (λ n. turnOf (growth (c .clock) time) c n .queue);
-}
+tick time c =
+    withClock (advanced time (c .clock))
+    (withBooks
+    (table (λ n. turnOf (growth (c .clock) time) c n .row))
+    (table (λ n. turnOf (growth (c .clock) time) c n .queue))
+    c)
 
 -- the bios waiting over all leaves
 unfoldable pub waitingAll : Controller → ℕ

@@ -11,7 +11,7 @@ use Rattle.rules.specs.Words.{tableFrom, has, noNode}
 use Rattle.rules.specs.Units.{abs, virt}
 use Rattle.rules.specs.Cost.{bpsInRange, iopsInRange, bytesInRange, sectorInRange, flagsInRange, isNear, priced}
 use Rattle.rules.specs.Tree.{countInRange, weightInRange, treeFault, newestFault, leavesOf, baseShares}
-use Rattle.rules.specs.Budget.{emptyQueue, emptyRow, fresh, rowAt, queueAt, shareAt, putLeaf, reshared}
+use Rattle.rules.specs.Budget.{emptyQueue, emptyRow, fresh, rowAt, queueAt, shareAt, withClock, withSharing, withBooks, putLeaf, reshared}
 use Rattle.rules.specs.Tick.{growth, capped, turn, releases, waitingAll}
 use Rattle.rules.specs.Plan.{usageAll, isQuiet, targetOf, isDonor, sumOver, quietIn, vrateInRange}
 use Rattle.rules.specs.Refusals.{Check, firstOf, isFault, verdictNumber, readNumber, writeNumber, modelValues, costChecks, roomChecks, tickChecks, planChecks}
@@ -35,7 +35,7 @@ use Rattle.rules.specs.declared.trace.Read.the-variants.{Found}
 use Rattle.rules.specs.declared.replay.Phase.{Phase}
 use Rattle.rules.specs.declared.replay.Phase.the-variants.{Setup, Priced, Running, Stopped}
 use Rattle.rules.specs.declared.replay.Replay.{Replay}
-use Rattle.rules.specs.Bench.{computed, bytesOfAll, B, ratesM, M, bio, atZero, costNumber, tree, tree5, tree6, tree7, runTree, running, saved as savedRow, used, state9, letter, plan10, allRight, Case}
+use Rattle.rules.specs.Bench.{computed, bytesOfAll, B, ratesM, M, bio, atZero, costNumber, tree, tree5, tree6, tree7, runTree, clockAt, running, saved as savedRow, used, state9, letter, plan10, allRight, Case}
 
 -- ---- the edges: each number of document 01, on it and one past it, and small cases of what B1 to B12 do not reach
 abbrev is : Bool → Case
@@ -70,18 +70,7 @@ holding n = record { ids = emptyQueue .ids; costs = emptyQueue .costs; head = 0;
 -- a state at time 0 with so much virtual time and E; n bios of leaf 1 wait
 abbrev clocked : ℕ → ℕ → ℕ → Controller
 clocked vtime since n =
-    let c : Controller = fresh tree5 M 0 in
-    record {
-      tree = tree5;
-      model = M;
-      clock = record { time = 0; vtime = virt vtime; since = virt since; vrate = 100 };
-      leaves = c .leaves;
-      active = noNode;
-      donors = noNode;
-      shares = c .shares;
-      rows = c .rows;
-      queues = emptyQueue ∷ holding n ∷ [];
-    }
+    withBooks (fresh tree5 M 0 .rows) (emptyQueue ∷ holding n ∷ []) (withClock (clockAt 0 vtime since 100) (fresh tree5 M 0))
 
 -- B9's leaf with an older bio that waits
 abbrev behind9 : ℕ → Controller
@@ -96,7 +85,7 @@ abbrev donating9 : Controller
 donating9 = reshared (leavesOf tree5) 2 (baseShares tree5 (leavesOf tree5)) (state9 0)
 
 abbrev rated : ℕ → Clock
-rated vrate = record { time = 0; vtime = virt 0; since = virt 0; vrate = vrate }
+rated vrate = clockAt 0 0 0 vrate
 
 -- after ticks at 100 and at 250
 later : Controller
@@ -223,17 +212,11 @@ row budget debt usage end begun accepted =
     record { budget = virt budget; debt = abs debt; usage = abs usage; end = end; begun = begun; accepted = accepted }
 
 abbrev state6 : Row → Queue → Controller
-state6 row₁ queue₁ = record {
-  tree = tree6;
-  model = M;
-  clock = record { time = 1000; vtime = virt 70000; since = virt 50000; vrate = 200 };
-  leaves = 14;
-  active = 6;
-  donors = 4;
-  shares = 0 ∷ 873741824 ∷ 200000000 ∷ 0 ∷ [];
-  rows = emptyRow ∷ row₁ ∷ row 900000 0 13 16 false true ∷ row 0 0 19 24 true false ∷ [];
-  queues = emptyQueue ∷ queue₁ ∷ ring 11 3 0 ∷ ring 21 0 0 ∷ [];
-}
+state6 row₁ queue₁ =
+    withBooks
+    (emptyRow ∷ row₁ ∷ row 900000 0 13 16 false true ∷ row 0 0 19 24 true false ∷ [])
+    (emptyQueue ∷ queue₁ ∷ ring 11 3 0 ∷ ring 21 0 0 ∷ [])
+    (withSharing 6 4 (0 ∷ 873741824 ∷ 200000000 ∷ 0 ∷ []) (withClock (clockAt 1000 70000 50000 200) (fresh tree6 M 0)))
 
 -- leaf 1 has saved; waits for three, over the ring's end; owes; owes and waits
 saved6 : Controller
@@ -255,34 +238,14 @@ small6 = state6 (row 400000 7 7 8 true false) (ring 1 7 0)
 -- a tree of 63 leaves, of which the last alone is active, has used 5 and waits for one that costs nothing
 last63 : Controller
 last63 =
-    let c : Controller = fresh (star 63) M 0 in
-    record {
-      tree = star 63;
-      model = M;
-      clock = rated 100;
-      leaves = c .leaves;
-      active = 2 ^ 63;
-      donors = noNode;
-      shares = replicate 63 0 ++ (2000 ∷ []);
-      rows = replicate 63 emptyRow ++ (used 5 ∷ []);
-      queues = replicate 63 emptyQueue ++ (record { ids = tableFrom (λ i. i) 4 8; costs = emptyQueue .costs; head = 0; len = 1 } ∷ []);
-    }
+    withBooks
+    (replicate 63 emptyRow ++ (used 5 ∷ []))
+    (replicate 63 emptyQueue ++ (record { ids = tableFrom (λ i. i) 4 8; costs = emptyQueue .costs; head = 0; len = 1 } ∷ []))
+    (withSharing (2 ^ 63) noNode (replicate 63 0 ++ (2000 ∷ [])) (fresh (star 63) M 0))
 
 -- all that can wait does, of leaves that are not active
 crowded : Controller
-crowded =
-    let c : Controller = fresh (star 63) M 0 in
-    record {
-      tree = star 63;
-      model = M;
-      clock = rated 100;
-      leaves = c .leaves;
-      active = noNode;
-      donors = noNode;
-      shares = c .shares;
-      rows = c .rows;
-      queues = emptyQueue ∷ replicate 63 (holding 8);
-    }
+crowded = withBooks (fresh (star 63) M 0 .rows) (emptyQueue ∷ replicate 63 (holding 8)) (fresh (star 63) M 0)
 
 abbrev then : Bio → Controller → List ℕ
 then b c = bookNumbers (submitted b c .state)
