@@ -278,6 +278,9 @@ books =
     -- a second debt is added to the first, and the bio moves the end and counts
     ∷ see (then (bio 1 2 8192) owes6) (top 6 4 ++ (873741824 ∷ 0 ∷ 80000 ∷ 7 ∷ 16 ∷ 1 ∷ 1 ∷ 7 ∷ 1 ∷ leaf2 ++ leaf3))
     ∷ see (then (bio 1 0 8192) owes6) (top 6 4 ++ (873741824 ∷ 0 ∷ 50000 ∷ 7 ∷ 16 ∷ 1 ∷ 1 ∷ 7 ∷ 2 ∷ leaf2 ++ leaf3))
+    -- one that owes issues nothing, whatever it has saved
+    ∷ see (then (bio 1 0 4096) small6) (top 6 4 ++ (873741824 ∷ 400000 ∷ 7 ∷ 7 ∷ 8 ∷ 1 ∷ 1 ∷ 7 ∷ 1 ∷ leaf2 ++ leaf3))
+    ∷ see (then (bio 1 2 4096) small6) (top 6 4 ++ (873741824 ∷ 400000 ∷ 20007 ∷ 7 ∷ 8 ∷ 1 ∷ 1 ∷ 7 ∷ 0 ∷ leaf2 ++ leaf3))
     -- a donor's bio is issued, and the donation stands; it waits or goes on debt, judged at the donor's share, and all return to
     -- base shares: 900,000 x 200,000,000 / 536,870,912
     ∷ see (then (bio 2 0 512) saved6) (top 6 4 ++ leaf1 ++ (200000000 ∷ 363129 ∷ 0 ∷ 100013 ∷ 1 ∷ 1 ∷ 1 ∷ 3 ∷ 0 ∷ leaf3))
