@@ -4,3 +4,4 @@ pub mod Ledger
 pub mod Steps
 pub mod Heads
 pub mod Sentences
+pub mod Traces
