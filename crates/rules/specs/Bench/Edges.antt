@@ -235,6 +235,10 @@ both6 = state6 (row 0 10000 7 8 true false) (record { ids = ring 1 7 1 .ids; cos
 small6 : Controller
 small6 = state6 (row 400000 7 7 8 true false) (ring 1 7 0)
 
+-- leaf 2 has used 15,000 of 50,000, and leaf 3, which is not active, had a bio accepted or not
+abbrev more6 : Bool → Controller
+more6 accepted = putLeaf 3 (row 0 0 19 24 true accepted) (ring 21 0 0) (putLeaf 2 (row 900000 0 15000 16 false true) (ring 11 3 0) small6)
+
 -- a tree of 63 leaves, of which the last alone is active, has used 5 and waits for one that costs nothing
 last63 : Controller
 last63 =
@@ -320,6 +324,13 @@ books =
     ∷ see (bookNumbers (planned small6 .state))
     (1000 ∷ 70000 ∷ 0 ∷ 200 ∷ 14 ∷ 6 ∷ 4 ∷ 1073392858 ∷ 325600 ∷ 4 ∷ 0 ∷ 8 ∷ 1 ∷ 0 ∷ 7 ∷ 0
     ∷ 348966 ∷ 900000 ∷ 0 ∷ 0 ∷ 16 ∷ 0 ∷ 0 ∷ 3 ∷ 0 ∷ 0 ∷ 0 ∷ 0 ∷ 0 ∷ 24 ∷ 1 ∷ 0 ∷ 0 ∷ 0 ∷ [])
+    -- a leaf that waits stays and gives nothing, though no bio of it was accepted
+    ∷ see (leafNumbers (planned waits6 .state) 1) (1073392858 ∷ 24420 ∷ 0 ∷ 0 ∷ 8 ∷ 1 ∷ 0 ∷ 7 ∷ 3 ∷ [])
+    -- who gives is judged at its base share, not at the share held: leaf 2 gives less than before
+    ∷ see (planned (more6 true) .state .donors ∷ take 3 (planned (more6 true) .state .shares)) (4 ∷ 0 ∷ 671088639 ∷ 402653185 ∷ [])
+    ∷ see (rowNumbers (rowAt (planned (more6 true) .state) 2)) (447034 ∷ 0 ∷ 0 ∷ 16 ∷ 0 ∷ 0 ∷ [])
+    -- no plan wakes a leaf, whatever its books say
+    ∷ see (planned (more6 true) .state .active ∷ planned (more6 false) .state .active ∷ []) (6 ∷ 6 ∷ [])
     -- the last leaf counts like any other: what it used, what waits there, what it releases, its share and its line
     ∷ see (usageAll last63 .0 ∷ waitingAll last63 ∷ sumOver (has (2 ^ 63)) (last63 .shares) ∷ []) (5 ∷ 1 ∷ 2000 ∷ [])
     ∷ see (releases (virt 0) last63 ++ shareLines last63) (4 ∷ 80 ∷ 32 ∷ 54 ∷ 51 ∷ 32 ∷ 50 ∷ 48 ∷ 48 ∷ 48 ∷ 10 ∷ [])
