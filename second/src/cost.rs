@@ -1,6 +1,6 @@
 //! Cost of a bio: the linear model made from six rates.
 
-use crate::numbers::{ceil, Absolute};
+use crate::numbers::Absolute;
 use crate::refusal::Refusal;
 use crate::rules::{Mutant, Rules};
 
@@ -44,12 +44,19 @@ impl Bio {
     }
 
     /// Refusal 5.
-    pub fn check(&self) -> Result<(), Refusal> {
-        let bytes_good = u64::from(self.bytes) >= SECTOR
-            && self.bytes <= MAX_BYTES
-            && u64::from(self.bytes) % SECTOR == 0;
-        let flags_good = self.flags & !(WRITE | FORCED) == 0;
-        if bytes_good && flags_good && self.sector <= MAX_SECTOR {
+    pub fn check(&self, rules: Rules) -> Result<(), Refusal> {
+        let bytes = u64::from(self.bytes);
+        let step = if rules.changed(Mutant::BytesOfPages) {
+            PAGE
+        } else {
+            SECTOR
+        };
+        let bytes_good = bytes >= SECTOR
+            && bytes <= rules.limit(Mutant::BytesOneLess, u64::from(MAX_BYTES))
+            && bytes % step == 0;
+        let flags_good = self.flags & !(WRITE | FORCED) == 0 || rules.changed(Mutant::FlagsIgnored);
+        let sector_good = self.sector <= rules.limit(Mutant::SectorOneLess, MAX_SECTOR);
+        if bytes_good && flags_good && sector_good {
             Ok(())
         } else {
             Err(Refusal::BioRange)
@@ -60,11 +67,8 @@ impl Bio {
 /// Whether a bio at `sector` is sequential for a leaf whose last accepted bio
 /// ended at `end`.
 pub fn is_sequential(end: Option<u64>, sector: u64, rules: Rules) -> bool {
-    let near = if rules.changed(Mutant::NearOneLess) {
-        NEAR_SECTORS - 1
-    } else {
-        NEAR_SECTORS
-    };
+    let near = rules.limit(Mutant::NearOneLess, NEAR_SECTORS)
+        + u64::from(rules.changed(Mutant::NearOneMore));
     match end {
         None => rules.changed(Mutant::FirstSequential),
         Some(end) if sector >= end => sector - end <= near,
@@ -91,14 +95,23 @@ pub struct Side {
 }
 
 impl Side {
-    fn new(bps: u64, seqiops: u64, randiops: u64) -> Result<Side, Refusal> {
-        let bps_good = (MIN_BPS..=MAX_BPS).contains(&bps);
-        let iops_good = |iops: u64| (1..=MAX_IOPS).contains(&iops);
+    fn new(bps: u64, seqiops: u64, randiops: u64, rules: Rules) -> Result<Side, Refusal> {
+        let least_bps = MIN_BPS + u64::from(rules.changed(Mutant::BpsOneMore));
+        let bps_good = (least_bps..=MAX_BPS).contains(&bps);
+        let most_iops = rules.limit(Mutant::IopsOneLess, MAX_IOPS);
+        let iops_good = |iops: u64| (1..=most_iops).contains(&iops);
         if !(bps_good && iops_good(seqiops) && iops_good(randiops)) {
             return Err(Refusal::Rate);
         }
-        let page = ceil(SECOND, PAGE, bps);
-        let base = |iops: u64| ceil(SECOND, 1, iops).saturating_sub(page);
+        let page = rules.ceil(Mutant::PageRoundedDown, SECOND, PAGE, bps);
+        let base = |iops: u64| {
+            let operation = rules.ceil(Mutant::BaseRoundedDown, SECOND, 1, iops);
+            if rules.changed(Mutant::BaseKeepsPage) {
+                operation
+            } else {
+                operation.saturating_sub(page)
+            }
+        };
         Ok(Side {
             page,
             sequential_base: base(seqiops),
@@ -115,21 +128,26 @@ pub struct Model {
 
 impl Model {
     /// Refusal 3 for a rate out of range.
-    pub fn new(rates: &Rates) -> Result<Model, Refusal> {
+    pub fn new(rates: &Rates, rules: Rules) -> Result<Model, Refusal> {
         Ok(Model {
-            read: Side::new(rates.rbps, rates.rseqiops, rates.rrandiops)?,
-            write: Side::new(rates.wbps, rates.wseqiops, rates.wrandiops)?,
+            read: Side::new(rates.rbps, rates.rseqiops, rates.rrandiops, rules)?,
+            write: Side::new(rates.wbps, rates.wseqiops, rates.wrandiops, rules)?,
         })
     }
 
     /// The cost by the formula alone; the limit is `MAX_COST`.
-    pub fn cost(&self, write: bool, sequential: bool, bytes: u32) -> Absolute {
-        let side = if write { &self.write } else { &self.read };
+    pub fn cost(&self, write: bool, sequential: bool, bytes: u32, rules: Rules) -> Absolute {
+        let side = if write && !rules.changed(Mutant::WriteAsRead) {
+            &self.write
+        } else {
+            &self.read
+        };
         let base = if sequential {
             side.sequential_base
         } else {
             side.random_base
         };
-        Absolute(base + side.page * ceil(u64::from(bytes), 1, PAGE))
+        let pages = rules.ceil(Mutant::PagesRoundedDown, u64::from(bytes), 1, PAGE);
+        Absolute(base + side.page * pages)
     }
 }

@@ -68,3 +68,14 @@ impl Iterator for Members {
         Some(lowest)
     }
 }
+
+impl DoubleEndedIterator for Members {
+    fn next_back(&mut self) -> Option<usize> {
+        if self.left == 0 {
+            return None;
+        }
+        let highest = 63 - self.left.leading_zeros() as usize;
+        self.left &= !(1 << highest);
+        Some(highest)
+    }
+}

@@ -116,7 +116,7 @@ fn observe_rates(rates: &Rates, refused: bool, sink: &mut Sink) {
     sink.when(any_bps(MAX_BPS), Event::BpsMost);
     sink.when(any_iops(1), Event::Iops1);
     sink.when(any_iops(MAX_IOPS), Event::IopsMost);
-    if let Ok(model) = Model::new(rates) {
+    if let Ok(model) = Model::new(rates, Rules::TRUE) {
         let no_base = model.read.random_base == 0 || model.write.random_base == 0;
         sink.when(no_base, Event::BaseZero);
     }
@@ -188,7 +188,7 @@ fn observe_refused_bio(before: &Controller, bio: &Bio, refusal: Refusal, sink: &
         sink.when(number != 0 && !absent, Event::BioOnInnerNode);
         sink.when(absent, Event::BioOnAbsentNode);
         sink.when(number == 255, Event::BioOnNode255);
-        sink.when(bio.check().is_err(), Event::NoLeafAndBadBio);
+        sink.when(bio.check(Rules::TRUE).is_err(), Event::NoLeafAndBadBio);
         return;
     }
     let leaf = &before.leaves[number];
@@ -232,7 +232,11 @@ fn observe_cost(before: &Controller, number: usize, bio: &Bio, sink: &mut Sink) 
         .any(|other| before.leaves[other].queue.iter().any(|w| w.id == bio.id));
     sink.when(repeated, Event::IdWaitsAlready);
     // Being sequential only shows where it changes the cost.
-    let by_place = |sequential| before.model.cost(bio.is_write(), sequential, bio.bytes);
+    let by_place = |sequential| {
+        before
+            .model
+            .cost(bio.is_write(), sequential, bio.bytes, Rules::TRUE)
+    };
     if by_place(true) == by_place(false) {
         return;
     }

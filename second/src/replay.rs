@@ -6,8 +6,8 @@ use crate::controller::{Answer, Controller, MAX_WAITING};
 use crate::cost::Model;
 use crate::numbers::members;
 use crate::refusal::Refusal;
-use crate::rules::Rules;
-use crate::trace::{Record, Stream};
+use crate::rules::{Mutant, Rules};
+use crate::trace::{Record, Stream, START};
 use crate::tree::Tree;
 
 /// What the records so far have built. A replay has one phase at a time and
@@ -75,9 +75,30 @@ impl Replay {
             Ok(outcome) => outcome,
             Err(refusal) => {
                 let in_setup = self.controller().is_none();
-                self.stopped = in_setup || refusal.ends_trace();
+                self.stopped = in_setup && !self.rules.changed(Mutant::SetupGoesOn)
+                    || refusal.ends_trace()
+                    || self.rules.changed(Mutant::RefusalStops);
                 Outcome::Refused(refusal)
             }
+        }
+    }
+
+    /// A cut record is refused 17 whatever its phase, but under the mutant
+    /// that first looks at the phase of its kind.
+    fn phase_first(
+        &self,
+        next: Result<Record, Refusal>,
+        kind: Option<u8>,
+    ) -> Result<Record, Refusal> {
+        let for_setup = kind.map_or(false, |kind| kind <= START);
+        let out_of_phase = for_setup == self.controller().is_some();
+        match next {
+            Err(Refusal::CutRecord)
+                if out_of_phase && self.rules.changed(Mutant::PhaseBeforeCut) =>
+            {
+                Err(Refusal::WrongPhase)
+            }
+            _ => next,
         }
     }
 
@@ -87,11 +108,23 @@ impl Replay {
             Phase::Running(_) => return Err(Refusal::WrongPhase),
         };
         match (record, *model) {
-            (Record::Node { parent, weight }, _) => tree.add(*parent, *weight)?,
-            (Record::Model(rates), None) => *model = Some(Model::new(rates)?),
+            (Record::Node { parent, weight }, _) => {
+                tree.add(*parent, *weight, self.rules)?;
+                if self.rules.changed(Mutant::ThinAtNode) {
+                    tree.check_thin(self.rules)?;
+                }
+            }
+            (Record::Model(rates), None) => *model = Some(Model::new(rates, self.rules)?),
+            (Record::Model(rates), Some(_)) if self.rules.changed(Mutant::SecondModel) => {
+                *model = Some(Model::new(rates, self.rules)?)
+            }
             (Record::Start { time }, Some(given)) => {
                 let controller = Controller::start(tree.clone(), given, *time, self.rules)?;
                 self.phase = Phase::Running(controller);
+            }
+            (Record::Start { .. }, None) if self.rules.changed(Mutant::TreeBeforePhase) => {
+                tree.check(self.rules)?;
+                return Err(Refusal::WrongPhase);
             }
             _ => return Err(Refusal::WrongPhase),
         }
@@ -115,6 +148,11 @@ impl Replay {
             }
             Record::Vrate { vrate } => {
                 controller.set_vrate(*vrate)?;
+                Ok(Outcome::Quiet)
+            }
+            Record::Start { time } if self.rules.changed(Mutant::SecondStart) => {
+                let tree = controller.tree.clone();
+                *controller = Controller::start(tree, controller.model, *time, self.rules)?;
                 Ok(Outcome::Quiet)
             }
             Record::Node { .. } | Record::Model(_) | Record::Start { .. } => {
@@ -155,7 +193,17 @@ impl Replay {
 
     fn print_shares(&self, out: &mut impl Write) -> io::Result<()> {
         if let Some(controller) = self.controller() {
-            for number in members(controller.active) {
+            let mut left = if self.rules.changed(Mutant::LinesOfInactive) {
+                members(controller.tree.leaves())
+            } else {
+                members(controller.active)
+            };
+            let falling = self.rules.changed(Mutant::FallingLines);
+            while let Some(number) = if falling {
+                left.next_back()
+            } else {
+                left.next()
+            } {
                 writeln!(out, "P {} {}", number, controller.leaves[number].share)?;
             }
         }
@@ -171,7 +219,7 @@ pub fn replay(input: impl Read, out: &mut impl Write, rules: Rules) -> io::Resul
         match stream.next()? {
             None => break,
             Some(next) => {
-                let outcome = replay.take(next);
+                let outcome = replay.take(replay.phase_first(next, stream.next_kind()));
                 replay.print(outcome, out)?;
             }
         }

@@ -81,7 +81,7 @@ pub fn run(out: &mut impl Write) -> io::Result<bool> {
 fn tree_of(nodes: &[(u8, u16)]) -> Result<Tree, Refusal> {
     let mut tree = Tree::new();
     for &(parent, weight) in nodes {
-        tree.add(parent, weight)?;
+        tree.add(parent, weight, Rules::TRUE)?;
     }
     Ok(tree)
 }
@@ -101,7 +101,7 @@ fn flat(weights: &[u16]) -> Vec<(u8, u16)> {
 /// A controller with all leaves of a flat tree active at their base shares.
 fn active_controller(weights: &[u16]) -> Result<Controller, Refusal> {
     let tree = tree_of(&flat(weights))?;
-    let mut controller = Controller::start(tree, Model::new(&BENCH)?, 0, Rules::TRUE)?;
+    let mut controller = Controller::start(tree, Model::new(&BENCH, Rules::TRUE)?, 0, Rules::TRUE)?;
     controller.active = controller.tree.leaves();
     let shares = controller.tree.base_shares(controller.active, Rules::TRUE);
     for number in members(controller.active) {
@@ -111,19 +111,20 @@ fn active_controller(weights: &[u16]) -> Result<Controller, Refusal> {
 }
 
 fn bench_costs(checks: &mut Checks) -> Result<(), Refusal> {
-    let model = Model::new(&BENCH)?;
-    let random_read = |bytes| model.cost(false, false, bytes);
+    let model = Model::new(&BENCH, Rules::TRUE)?;
+    let random_read = |bytes| model.cost(false, false, bytes, Rules::TRUE);
     checks.equal("B1 512", random_read(512), Absolute(100_000));
     checks.equal("B1 4,096", random_read(4_096), Absolute(100_000));
     checks.equal("B1 8,192", random_read(8_192), Absolute(110_000));
-    let sequential_read = model.cost(false, true, 65_536);
+    let sequential_read = model.cost(false, true, 65_536, Rules::TRUE);
     checks.equal("B2", sequential_read, Absolute(170_000));
-    let random_write = model.cost(true, false, 4_096);
+    let random_write = model.cost(true, false, 4_096, Rules::TRUE);
     checks.equal("B3", random_write, Absolute(200_000));
-    let faster = Model::new(&Rates {
+    let rates = Rates {
         rseqiops: 200_000,
         ..BENCH
-    })?;
+    };
+    let faster = Model::new(&rates, Rules::TRUE)?;
     checks.equal("B4", faster.read.sequential_base, 0);
     Ok(())
 }
@@ -241,12 +242,12 @@ fn whole_case(checks: &mut Checks) -> io::Result<()> {
 }
 
 fn outside_costs(checks: &mut Checks) -> Result<(), Refusal> {
-    let model = Model::new(&PAPER)?;
+    let model = Model::new(&PAPER, Rules::TRUE)?;
     checks.equal("paper read page", model.read.page, 8_383);
     let base = model.read.sequential_base;
     checks.equal("paper sequential read base", base, 103_575);
     checks.equal("paper random read base", model.read.random_base, 109_016);
-    let page = |write, sequential| model.cost(write, sequential, 4_096).0;
+    let page = |write, sequential| model.cost(write, sequential, 4_096, Rules::TRUE).0;
     checks.equal("paper sequential read", page(false, true), 111_958);
     checks.equal("paper random read", page(false, false), 117_399);
     checks.equal("paper sequential write", page(true, true), 34_777);

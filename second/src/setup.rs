@@ -136,7 +136,7 @@ fn is_good(nodes: &[(u8, u16)]) -> bool {
     let mut tree = Tree::new();
     nodes
         .iter()
-        .all(|&(parent, weight)| tree.add(parent, weight).is_ok())
+        .all(|&(parent, weight)| tree.add(parent, weight, Rules::TRUE).is_ok())
         && tree.check(Rules::TRUE).is_ok()
 }
 
@@ -172,7 +172,7 @@ fn scattered_tree(random: &mut Random, count: u64) -> Nodes {
     while (nodes.len() as u64) < count {
         let parent = random.below(nodes.len() as u64 + 1) as u8;
         let weight = random.between(50, 400) as u16;
-        if tree.add(parent, weight).is_ok() {
+        if tree.add(parent, weight, Rules::TRUE).is_ok() {
             nodes.push((parent, weight));
         }
     }

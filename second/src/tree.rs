@@ -1,6 +1,6 @@
 //! The weight tree and its base shares.
 
-use crate::numbers::{ceil, floor, is_member, members, WHOLE};
+use crate::numbers::{is_member, members, WHOLE};
 use crate::refusal::Refusal;
 use crate::rules::{Mutant, Rules};
 
@@ -50,15 +50,23 @@ impl Tree {
     }
 
     /// Adds the next node below `parent`, or refuses it with 1.
-    pub fn add(&mut self, parent: u8, weight: u16) -> Result<(), Refusal> {
+    pub fn add(&mut self, parent: u8, weight: u16, rules: Rules) -> Result<(), Refusal> {
         let node = self.count;
         let parent = usize::from(parent);
-        let weight_good = (1..=MAX_WEIGHT).contains(&weight);
-        if node == MAX_NODES || parent >= node || !weight_good || self.levels[parent] == MAX_LEVEL {
+        let weight = u64::from(weight);
+        let weights = 1..=rules.limit(Mutant::WeightOneLess, u64::from(MAX_WEIGHT));
+        let room = rules.limit(Mutant::NodesOneLess, MAX_NODES as u64) as usize;
+        let deepest = rules.limit(Mutant::LevelOneLess, u64::from(MAX_LEVEL)) as u8
+            + u8::from(rules.changed(Mutant::LevelOneMore));
+        if node >= room
+            || parent >= node
+            || !weights.contains(&weight)
+            || self.levels[parent] >= deepest
+        {
             return Err(Refusal::Tree);
         }
         self.parents[node] = parent;
-        self.weights[node] = u64::from(weight);
+        self.weights[node] = weight;
         self.levels[node] = self.levels[parent] + 1;
         // A parent stops being a leaf; the root never was one.
         self.leaves = self.leaves & !(1 << parent) | 1 << node;
@@ -71,7 +79,13 @@ impl Tree {
         if self.count < 2 {
             return Err(Refusal::Tree);
         }
-        let least = SHARE_FLOOR - u64::from(rules.changed(Mutant::ThinOneLess));
+        self.check_thin(rules)
+    }
+
+    /// Refusal 2.
+    pub fn check_thin(&self, rules: Rules) -> Result<(), Refusal> {
+        let least = rules.limit(Mutant::ThinOneLess, SHARE_FLOOR)
+            + u64::from(rules.changed(Mutant::ThinOneMore));
         if self.smallest_share(rules) < least {
             return Err(Refusal::Thin);
         }
@@ -100,16 +114,17 @@ impl Tree {
                 sums[self.parents[node]] += self.weights[node];
             }
         }
-        let round = if rules.changed(Mutant::ShareRoundedUp) {
-            ceil
-        } else {
-            floor
-        };
         let mut shares = [0; MAX_NODES];
         shares[0] = WHOLE;
         for node in members(active & !1) {
             let parent = self.parents[node];
-            shares[node] = round(shares[parent], self.weights[node], sums[parent]);
+            let divided = if rules.changed(Mutant::ShareOfWhole) {
+                WHOLE
+            } else {
+                shares[parent]
+            };
+            let (weight, sum) = (self.weights[node], sums[parent]);
+            shares[node] = rules.floor(Mutant::ShareRoundedUp, divided, weight, sum);
         }
         shares
     }
