@@ -17,6 +17,7 @@ pub const MAX_DEBT: Absolute = Absolute(1 << 40);
 pub const MAX_ELAPSED: u64 = 1_000_000_000;
 pub const MAX_VIRTUAL_TIME: u64 = 1 << 60;
 pub const MAX_PERIOD: u64 = 1 << 33;
+pub const FRESH_VRATE: u16 = 100;
 pub const MAX_VRATE: u16 = 400;
 
 /// What a submitted bio is told when it is not refused.
@@ -65,7 +66,7 @@ impl Controller {
             leaves: std::array::from_fn(|_| Leaf::default()),
             active: 0,
             donors: 0,
-            vrate: 100,
+            vrate: FRESH_VRATE,
             time: if rules.changed(Mutant::StartAtZero) {
                 0
             } else {
@@ -184,7 +185,11 @@ impl Controller {
     fn judge(&self, number: usize, bio: &Bio) -> Result<(Answer, Absolute), Refusal> {
         bio.check(self.rules)?;
         let cost = self.cost_of(number, bio);
-        let limit = self.rules.limit(Mutant::CostLimitOneLess, MAX_COST.0);
+        let limit = self.rules.limit(
+            Mutant::CostLimitOneLess,
+            Mutant::CostLimitOneMore,
+            MAX_COST.0,
+        );
         if cost.0 > limit {
             let early = if bio.is_forced() {
                 Mutant::DebtBeforeCost
@@ -215,8 +220,8 @@ impl Controller {
         if !behind_debt && !behind_waiter && leaf.fits(cost, self.rules) {
             return Ok(Answer::Issued);
         }
-        let room = self.rules.limit(Mutant::QueueOneLess, QUEUE_ROOM as u64);
-        if leaf.queue.len() as u64 >= room {
+        let room = QUEUE_ROOM - usize::from(self.rules.changed(Mutant::QueueOneLess));
+        if leaf.queue.len() >= room {
             return Err(Refusal::QueueFull);
         }
         Ok(Answer::Waits)
@@ -236,7 +241,13 @@ impl Controller {
         if !self.rules.changed(Mutant::DebtLimitAlone) {
             debt += cost;
         }
-        if debt.0 > self.rules.limit(Mutant::DebtLimitOneLess, MAX_DEBT.0) {
+        if debt.0
+            > self.rules.limit(
+                Mutant::DebtLimitOneLess,
+                Mutant::DebtLimitOneMore,
+                MAX_DEBT.0,
+            )
+        {
             return Err(Refusal::DebtLimit);
         }
         Ok(Answer::OnDebt)
@@ -322,7 +333,13 @@ impl Controller {
             });
         }
         let elapsed = time - self.time;
-        if elapsed > self.rules.limit(Mutant::ElapsedLimitOneLess, MAX_ELAPSED) {
+        if elapsed
+            > self.rules.limit(
+                Mutant::ElapsedLimitOneLess,
+                Mutant::ElapsedLimitOneMore,
+                MAX_ELAPSED,
+            )
+        {
             // At any rate, a hundred periods are too long.
             let growth = self.grown(elapsed.min(100 * MAX_PERIOD));
             if self.period + growth > MAX_PERIOD && self.rules.changed(Mutant::PeriodBeforeJump) {
@@ -334,7 +351,11 @@ impl Controller {
         if self.virtual_time + growth > MAX_VIRTUAL_TIME {
             return Err(Refusal::VirtualTimeLimit);
         }
-        let longest = self.rules.limit(Mutant::PeriodLimitOneLess, MAX_PERIOD);
+        let longest = self.rules.limit(
+            Mutant::PeriodLimitOneLess,
+            Mutant::PeriodLimitOneMore,
+            MAX_PERIOD,
+        );
         if self.period + growth > longest {
             return Err(Refusal::PeriodLimit);
         }
@@ -362,6 +383,9 @@ impl Controller {
         }
         if let Some(vrate) = self.aside.vrate.take() {
             self.vrate = vrate;
+        }
+        if self.rules.changed(Mutant::VrateOnce) {
+            self.vrate = FRESH_VRATE;
         }
         self.time = time;
         self.virtual_time += growth;
@@ -529,7 +553,7 @@ impl Controller {
         let least = if self.rules.changed(Mutant::TargetFloorOne) {
             1
         } else {
-            self.rules.limit(Mutant::TargetFloorOneLess, SHARE_FLOOR)
+            SHARE_FLOOR - u64::from(self.rules.changed(Mutant::TargetFloorOneLess))
         };
         least.max(used + margin)
     }
@@ -615,8 +639,13 @@ impl Controller {
 
     /// Sets the rate of later ticks; refusal 15.
     pub fn set_vrate(&mut self, vrate: u16) -> Result<(), Refusal> {
-        let most = self.rules.limit(Mutant::VrateOneLess, u64::from(MAX_VRATE));
-        let good = (1..=most).contains(&u64::from(vrate));
+        let least = u64::from(!self.rules.changed(Mutant::VrateZero));
+        let most = self.rules.limit(
+            Mutant::VrateOneLess,
+            Mutant::VrateOneMore,
+            u64::from(MAX_VRATE),
+        );
+        let good = (least..=most).contains(&u64::from(vrate));
         if good && self.rules.changed(Mutant::VrateLate) {
             self.aside.vrate = Some(vrate);
         } else if good || self.rules.changed(Mutant::RefusedVrateHolds) {

@@ -51,11 +51,17 @@ impl Bio {
         } else {
             SECTOR
         };
-        let bytes_good = bytes >= SECTOR
-            && bytes <= rules.limit(Mutant::BytesOneLess, u64::from(MAX_BYTES))
+        let most = if rules.changed(Mutant::BytesOneMore) {
+            u64::from(MAX_BYTES) + SECTOR
+        } else {
+            u64::from(MAX_BYTES)
+        };
+        let bytes_good = (bytes >= SECTOR || rules.changed(Mutant::BytesZero))
+            && (bytes < most || bytes == most && !rules.changed(Mutant::BytesOneLess))
             && bytes % step == 0;
         let flags_good = self.flags & !(WRITE | FORCED) == 0 || rules.changed(Mutant::FlagsIgnored);
-        let sector_good = self.sector <= rules.limit(Mutant::SectorOneLess, MAX_SECTOR);
+        let sector_good =
+            self.sector <= rules.limit(Mutant::SectorOneLess, Mutant::SectorOneMore, MAX_SECTOR);
         if bytes_good && flags_good && sector_good {
             Ok(())
         } else {
@@ -67,8 +73,7 @@ impl Bio {
 /// Whether a bio at `sector` is sequential for a leaf whose last accepted bio
 /// ended at `end`.
 pub fn is_sequential(end: Option<u64>, sector: u64, rules: Rules) -> bool {
-    let near = rules.limit(Mutant::NearOneLess, NEAR_SECTORS)
-        + u64::from(rules.changed(Mutant::NearOneMore));
+    let near = rules.limit(Mutant::NearOneLess, Mutant::NearOneMore, NEAR_SECTORS);
     match end {
         None => rules.changed(Mutant::FirstSequential),
         Some(end) if sector >= end => sector - end <= near,
@@ -96,10 +101,12 @@ pub struct Side {
 
 impl Side {
     fn new(bps: u64, seqiops: u64, randiops: u64, rules: Rules) -> Result<Side, Refusal> {
-        let least_bps = MIN_BPS + u64::from(rules.changed(Mutant::BpsOneMore));
-        let bps_good = (least_bps..=MAX_BPS).contains(&bps);
-        let most_iops = rules.limit(Mutant::IopsOneLess, MAX_IOPS);
-        let iops_good = |iops: u64| (1..=most_iops).contains(&iops);
+        let least_bps = rules.limit(Mutant::LeastBpsOneLess, Mutant::LeastBpsOneMore, MIN_BPS);
+        let most_bps = rules.limit(Mutant::MostBpsOneLess, Mutant::MostBpsOneMore, MAX_BPS);
+        let bps_good = (least_bps..=most_bps).contains(&bps);
+        let least_iops = 1 + u64::from(rules.changed(Mutant::LeastIopsOneMore));
+        let most_iops = rules.limit(Mutant::MostIopsOneLess, Mutant::MostIopsOneMore, MAX_IOPS);
+        let iops_good = |iops: u64| (least_iops..=most_iops).contains(&iops);
         if !(bps_good && iops_good(seqiops) && iops_good(randiops)) {
             return Err(Refusal::Rate);
         }

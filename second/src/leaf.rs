@@ -236,8 +236,7 @@ impl Leaf {
     fn cap(&mut self, rules: Rules) {
         let waiters_too =
             rules.changed(Mutant::CapWhileWaiting) || rules.changed(Mutant::CapWaiterBeforeRelease);
-        let most = rules.limit(Mutant::CapOneLess, IDLE_CAP.0)
-            + u64::from(rules.changed(Mutant::CapOneMore));
+        let most = rules.limit(Mutant::CapOneLess, Mutant::CapOneMore, IDLE_CAP.0);
         if !self.owes() && (self.queue.is_empty() || waiters_too) {
             self.budget = self.budget.min(Relative(most));
         }

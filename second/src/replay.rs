@@ -75,9 +75,16 @@ impl Replay {
             Ok(outcome) => outcome,
             Err(refusal) => {
                 let in_setup = self.controller().is_none();
-                self.stopped = in_setup && !self.rules.changed(Mutant::SetupGoesOn)
-                    || refusal.ends_trace()
-                    || self.rules.changed(Mutant::RefusalStops);
+                let goes_on = if refusal.ends_trace() {
+                    !in_setup
+                        && refusal == Refusal::WrongPhase
+                        && self.rules.changed(Mutant::PhaseGoesOn)
+                } else {
+                    in_setup && self.rules.changed(Mutant::SetupGoesOn)
+                };
+                let stops =
+                    in_setup || refusal.ends_trace() || self.rules.changed(Mutant::RefusalStops);
+                self.stopped = stops && !goes_on;
                 Outcome::Refused(refusal)
             }
         }
@@ -117,6 +124,10 @@ impl Replay {
             (Record::Model(rates), None) => *model = Some(Model::new(rates, self.rules)?),
             (Record::Model(rates), Some(_)) if self.rules.changed(Mutant::SecondModel) => {
                 *model = Some(Model::new(rates, self.rules)?)
+            }
+            (Record::Model(rates), Some(_)) if self.rules.changed(Mutant::RatesBeforePhase) => {
+                Model::new(rates, self.rules)?;
+                return Err(Refusal::WrongPhase);
             }
             (Record::Start { time }, Some(given)) => {
                 let controller = Controller::start(tree.clone(), given, *time, self.rules)?;

@@ -14,13 +14,22 @@ named_list! {
         BaseKeepsPage = "base without the page cost taken off",
         PagesRoundedDown = "pages of a bio rounded down",
         WriteAsRead = "a write priced as a read",
-        BpsOneMore = "refusal 3 at a bps of exactly 4,096",
-        IopsOneLess = "refusal 3 at an iops of exactly 10^9",
+        LeastBpsOneLess = "a bps of 4,095 accepted",
+        LeastBpsOneMore = "refusal 3 at a bps of exactly 4,096",
+        MostBpsOneLess = "refusal 3 at a bps of exactly 2^40",
+        MostBpsOneMore = "a bps of 2^40 + 1 accepted",
+        LeastIopsOneMore = "refusal 3 at an iops of exactly 1",
+        MostIopsOneLess = "refusal 3 at an iops of exactly 10^9",
+        MostIopsOneMore = "an iops of 10^9 + 1 accepted",
         BytesOfPages = "bytes only in multiples of 4,096",
+        BytesZero = "0 bytes accepted",
         BytesOneLess = "refusal 5 at exactly 1,048,576 bytes",
+        BytesOneMore = "1,049,088 bytes accepted",
         SectorOneLess = "refusal 5 at a sector of exactly 2^48",
+        SectorOneMore = "a sector of 2^48 + 1 accepted",
         FlagsIgnored = "unknown flags ignored",
         CostLimitOneLess = "refusal 6 at a cost of exactly 2^31",
+        CostLimitOneMore = "a cost of 2^31 + 1 accepted",
         SequentialAheadOnly = "sequential only at or ahead of the end",
         NearOneLess = "sequential only up to 32,767 sectors",
         NearOneMore = "sequential up to 32,769 sectors",
@@ -36,7 +45,9 @@ named_list! {
         RefusedMovesEnd = "a refused bio moves the end",
         // Tree and base shares
         NodesOneLess = "refusal 1 at the 63rd node record",
+        WeightZero = "a weight of 0 accepted",
         WeightOneLess = "refusal 1 at a weight of exactly 10,000",
+        WeightOneMore = "a weight of 10,001 accepted",
         LevelOneLess = "refusal 1 at level 8",
         LevelOneMore = "level 9 accepted",
         InnerSubmits = "an inner node submits",
@@ -81,6 +92,7 @@ named_list! {
         GrowthOfHundreds = "elapsed time divided by 100 before it is multiplied",
         RestCarried = "the part lost by rounding carried on to the next tick",
         VrateLate = "a vrate holds only after the next tick",
+        VrateOnce = "a vrate holds for one tick",
         TickOfZeroSkipped = "a tick with no elapsed time does nothing",
         FallingTurns = "leaves have their turn by falling number",
         GainByShare = "a leaf gains its share of the virtual time",
@@ -149,22 +161,29 @@ named_list! {
         QueueOneLess = "refusal 7 at 7 waiting",
         QueueForForced = "refusal 7 also for a forced bio",
         DebtLimitOneLess = "refusal 8 at a debt of exactly 2^40",
+        DebtLimitOneMore = "a debt of 2^40 + 1 accepted",
         DebtLimitAlone = "refusal 8 without the bio's own cost",
         BackIsJump = "refusal 10 for a time that goes back",
         ElapsedLimitOneLess = "refusal 10 at exactly 10^9 ns",
+        ElapsedLimitOneMore = "10^9 + 1 ns accepted",
         PeriodBeforeJump = "12 looked for before 10",
         PeriodLimitOneLess = "refusal 12 at E of exactly 2^33",
+        PeriodLimitOneMore = "E of 2^33 + 1 accepted",
         RefusedTickMovesTime = "a refused tick sets the time",
         RefusedPlanUsage = "a refused plan starts usages at 0",
         RefusedPlanAccepted = "a refused plan forgets which leaves had a bio accepted",
+        VrateZero = "a vrate of 0 accepted",
         VrateOneLess = "refusal 15 at exactly 400",
+        VrateOneMore = "a vrate of 401 accepted",
         RefusedVrateHolds = "a refused vrate holds",
         // Trace records
         SecondModel = "a second model takes the place of the first",
         SecondStart = "a second start starts anew",
+        RatesBeforePhase = "3 looked for before 18",
         TreeBeforePhase = "1 looked for before 18",
         PhaseBeforeCut = "18 looked for before 17",
         SetupGoesOn = "a refusal in setup does not stop the replay",
+        PhaseGoesOn = "18 after start does not stop the replay",
         RefusalStops = "any refusal stops the replay",
         LinesOfInactive = "a plan prints a line for inactive leaves too",
         FallingLines = "a plan's lines come by falling number",
@@ -200,8 +219,8 @@ impl Rules {
         (if self.changed(mutant) { floor } else { ceil })(a, b, c)
     }
 
-    /// The limit, but one less under the mutant.
-    pub fn limit(self, mutant: Mutant, limit: u64) -> u64 {
-        limit - u64::from(self.changed(mutant))
+    /// The limit, but one less under one mutant and one more under another.
+    pub fn limit(self, one_less: Mutant, one_more: Mutant, limit: u64) -> u64 {
+        limit + u64::from(self.changed(one_more)) - u64::from(self.changed(one_less))
     }
 }

@@ -54,14 +54,22 @@ impl Tree {
         let node = self.count;
         let parent = usize::from(parent);
         let weight = u64::from(weight);
-        let weights = 1..=rules.limit(Mutant::WeightOneLess, u64::from(MAX_WEIGHT));
-        let room = rules.limit(Mutant::NodesOneLess, MAX_NODES as u64) as usize;
-        let deepest = rules.limit(Mutant::LevelOneLess, u64::from(MAX_LEVEL)) as u8
-            + u8::from(rules.changed(Mutant::LevelOneMore));
+        let lightest = u64::from(!rules.changed(Mutant::WeightZero));
+        let heaviest = rules.limit(
+            Mutant::WeightOneLess,
+            Mutant::WeightOneMore,
+            u64::from(MAX_WEIGHT),
+        );
+        let room = MAX_NODES - usize::from(rules.changed(Mutant::NodesOneLess));
+        let deepest = rules.limit(
+            Mutant::LevelOneLess,
+            Mutant::LevelOneMore,
+            u64::from(MAX_LEVEL),
+        );
         if node >= room
             || parent >= node
-            || !weights.contains(&weight)
-            || self.levels[parent] >= deepest
+            || !(lightest..=heaviest).contains(&weight)
+            || u64::from(self.levels[parent]) >= deepest
         {
             return Err(Refusal::Tree);
         }
@@ -84,8 +92,7 @@ impl Tree {
 
     /// Refusal 2.
     pub fn check_thin(&self, rules: Rules) -> Result<(), Refusal> {
-        let least = rules.limit(Mutant::ThinOneLess, SHARE_FLOOR)
-            + u64::from(rules.changed(Mutant::ThinOneMore));
+        let least = rules.limit(Mutant::ThinOneLess, Mutant::ThinOneMore, SHARE_FLOOR);
         if self.smallest_share(rules) < least {
             return Err(Refusal::Thin);
         }
