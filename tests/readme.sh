@@ -1,38 +1,71 @@
 #!/usr/bin/env bash
-# The README's own examples: each block of shell that is followed by a block of text is run at the root of the repository, and
-# must print that text. The last line is 'N passed, M failed'.
+# The README's own examples: each block of shell is run at the root of the repository and must print the block of text behind it.
+# The one block without such a text is the gate's own line, which is what runs this. There is no other kind of block.
+# The last line is 'N passed, M failed'.
 set -uo pipefail
 cd "$(dirname "$0")/.." || exit 1
+source compare/common
 
 passed=0
 failed=0
 work=$(mktemp -d) || exit 1
 trap 'rm -rf "$work"' EXIT
 
-# Writes the blocks to files: 1.sh and 1.text, 2.sh and 2.text, ..
+fail() {
+    failed=$((failed + 1))
+    printf 'FAILED: %s\n' "$1"
+}
+
+# Writes each block to a file, in order: 01.sh, 02.text, .. Any other fence, and a block that does not end, is a fault.
 awk -v work="$work" '
-    /^```sh$/ { n++; into = work "/" n ".sh"; printf "" > into; next }
-    /^```text$/ { into = work "/" n ".text"; printf "" > into; next }
-    /^```$/ { into = ""; next }
+    function fault(reason) { printf "README.md, line %d: %s\n", NR, reason > (work "/faults") }
+    /^[ \t]*(```|~~~)/ {
+        fences++
+        if (into != "" && $0 == "```") { into = "" }
+        else if (into == "" && ($0 == "```sh" || $0 == "```text")) {
+            into = sprintf("%s/%02d.%s", work, ++blocks, substr($0, 4))
+            printf "" > into
+        }
+        else fault("a fence that neither begins nor ends a block of sh or text: " $0)
+        next
+    }
     into != "" { print > into }
+    END {
+        if (into != "") fault("the last block does not end")
+        if (fences != 2 * blocks) fault(fences " fences and " blocks " blocks")
+    }
 ' README.md
+if [ -e "$work/faults" ]; then fail "$(cat "$work/faults")"; fi
 
-for text in "$work"/*.text; do
-    [ -e "$text" ] || break
-    shell=${text%.text}.sh
-    bash "$shell" >"$work/out" 2>"$work/err" </dev/null
-    if cmp -s "$work/out" "$text"; then
-        passed=$((passed + 1))
-    else
-        failed=$((failed + 1))
-        printf 'FAILED: %s\n' "$(cat "$shell")"
-        diff "$text" "$work/out" | head -n 5
-        head -n 3 "$work/err"
-    fi
-done
+gates=0
+previous=''
+for block in "$work"/*.sh "$work"/*.text; do [ -e "$block" ] && basename "$block"; done | sort >"$work/order"
+while read -r block; do
+    case $block in
+        *.text)
+            [ "${previous##*.}" = sh ] || fail "a block of text that follows no block of sh: $(head -n 1 "$work/$block")"
+            ;;
+        *.sh)
+            text=$(printf '%02d.text' $((10#${block%.sh} + 1)))
+            if [ -e "$work/$text" ]; then
+                bash "$work/$block" >"$work/out" 2>"$work/err" </dev/null
+                if cmp -s "$work/out" "$work/$text"; then
+                    passed=$((passed + 1))
+                else
+                    fail "$(cat "$work/$block")"
+                    diff "$work/$text" "$work/out" | head -n 5
+                    head -n 3 "$work/err"
+                fi
+            elif [ "$(cat "$work/$block")" = .ci/run ]; then
+                gates=$((gates + 1))
+            else
+                fail "a block of sh without a text behind it: $(cat "$work/$block")"
+            fi
+            ;;
+    esac
+    previous=$block
+done <"$work/order"
+if [ "$gates" -eq 1 ]; then passed=$((passed + 1)); else fail "the gate's own line is there $gates times"; fi
 
-# README names the gate itself too, which is what runs this.
-if grep -qx '\.ci/run' README.md; then passed=$((passed + 1)); else failed=$((failed + 1)); fi
-
-printf '%d passed, %d failed\n' "$passed" "$failed"
-[ "$failed" -eq 0 ] && [ "$passed" -gt 1 ]
+# Five examples and the gate's own line.
+close_count "$passed" "$failed" 6

@@ -8,6 +8,7 @@ here=$(cd "$(dirname "$0")" && pwd -P)
 whole=$here/../crates/replay/data/whole-case.trace
 binary=$(readlink -f "${1:?usage: tests/replay.sh BINARY [SECOND]}")
 second=${2:+$(readlink -f "$2")}
+source "$here/../compare/common"
 work=$(mktemp -d) || exit 1
 trap 'rm -rf "$work"' EXIT
 cd "$work" || exit 1
@@ -25,7 +26,12 @@ is() { # NAME TEST..
     if "$@"; then passed=$((passed + 1)); else failed=$((failed + 1)); printf 'FAILED: %s\n' "$name"; fi
 }
 
-skip() { printf 'not run: %s\n' "$1"; }
+# So many checks are due, without those that cannot be made here: CHECKS REASON.
+due=96
+skip() {
+    due=$((due - $1))
+    printf 'not run: %s\n' "$2"
+}
 
 # Runs the program on its arguments within the limits; what it wrote is in out and err, and how it ended in status.
 run() {
@@ -88,6 +94,60 @@ is "the same by a pipe" wrote long.lines
 mkdir sub
 (cd sub && run ../whole && wrote ../whole.lines)
 is "a relative name" [ $? -eq 0 ]
+
+# ---- an output that is shorter than any buffer: one line of 4 or 5 bytes, from a file and by a pipe, to a file and to a pipe
+printf '\x06' >short.18 # a plan before start
+printf '\x01\0\0\0' >short.1 # a node of weight 0
+printf '\x08' >short.16
+{ cat setup; printf '\x07\0\0'; } >short.15 # a vrate of 0
+{ cat setup; printf '\x04\x02\x00\x07\0\0\0\0\0\0\0\0\0\0\0\0\x10\0\0'; } >short.7 # leaf 2 waits
+for one in 'short.18 R 18' 'short.1 R 1' 'short.16 R 16' 'short.15 R 15' 'short.7 W 7'; do
+    trace=${one%% *}
+    printf '%s\n' "${one#* }" >"$trace.lines"
+    run "$trace"
+    is "one short line, ${one#* }, from a file to a file" wrote "$trace.lines"
+    run < <(cat "$trace")
+    is "one short line, ${one#* }, by a pipe to a file" wrote "$trace.lines"
+    timeout "$limit" "$binary" "$trace" 2>err | cat >out
+    status=${PIPESTATUS[0]}
+    is "one short line, ${one#* }, from a file to a pipe" wrote "$trace.lines"
+    cat "$trace" | timeout "$limit" "$binary" 2>err | cat >out
+    status=${PIPESTATUS[1]}
+    is "one short line, ${one#* }, by a pipe to a pipe" wrote "$trace.lines"
+done
+
+# ---- outputs just under, at and just over the sizes that a buffer of lines may have, by their number of bytes
+# The bios of many, whose lines have 4 to 8 bytes: as many of 8 bytes as fit, and one or two shorter ones for the rest.
+taken() { # FIRST COUNT: so many bios of many, from an id on, and their lines
+    tail -c +$((67 + 19 * $1)) many | head -c $((19 * $2)) >>sized
+    tail -n +$(($1 + 1)) many.lines | head -n "$2" >>sized.lines
+}
+sized() { # BYTES: makes the trace sized, whose lines have so many bytes
+    local long=$(($1 / 8)) rest=$(($1 % 8))
+    cp setup sized
+    : >sized.lines
+    case $rest in
+        0) taken 10000 "$long" ;;
+        1 | 2 | 3) # a line of 4 bytes, and one of as many and the rest
+            taken 10000 $((long - 1))
+            taken 9 1
+            taken $((10 ** rest)) 1
+            ;;
+        *)
+            taken 10000 "$long"
+            taken $((10 ** (rest - 4))) 1
+            ;;
+    esac
+}
+for size_of_lines in 6551 6552 6553 65535 65536 65537; do
+    sized "$size_of_lines"
+    is "the lines are $size_of_lines bytes" [ "$(wc -c <sized.lines)" -eq "$size_of_lines" ]
+    run sized
+    is "lines of $size_of_lines bytes, to a file" wrote sized.lines
+    timeout "$limit" "$binary" <sized 2>err | cat >out
+    status=${PIPESTATUS[0]}
+    is "lines of $size_of_lines bytes, to a pipe" wrote sized.lines
+done
 
 # ---- a trace that comes in pieces
 run < <(for ((i = 0; i < size; i++)); do dd if=whole bs=1 skip=$i count=1 2>dd.log; done)
@@ -192,7 +252,7 @@ elif cp "$binary" runner 2>err && chmod 755 . runner && $nobody ./runner nothing
     status=$?
     is "a file that may not be read" only_said "replay: cannot read 'secret' $hint: Permission denied"
 else
-    skip "a file that may not be read: root may read any"
+    skip 1 "a file that may not be read: root may read any"
 fi
 timeout "$limit" "$binary" whole >/dev/full 2>err
 status=$?
@@ -244,8 +304,7 @@ if [ "$(uname -m)" = x86_64 ] && [ "$(head -c 4 "$binary" | tail -c 3)" = ELF ] 
     ./setting watched timeout "$limit" "$binary" missing >out 2>err
     is "an error is one line there too" [ "$(tr -d '\r' <err)" = "replay: cannot read 'missing' $hint: No such file or directory" ]
 else
-    skip "calls that fail by a plan, and settings: they need x86-64, the program itself and rustc"
+    skip 22 "calls that fail by a plan, and settings: they need x86-64, the program itself and rustc"
 fi
 
-printf '%d passed, %d failed\n' "$passed" "$failed"
-[ "$failed" -eq 0 ]
+close_count "$passed" "$failed" "$due"

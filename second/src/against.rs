@@ -15,8 +15,11 @@ use crate::watch::Feed;
 /// A program that takes longer than this for a trace hangs.
 pub const PATIENCE: Duration = Duration::from_secs(60);
 
-/// Fewer records are no comparison.
+/// Fewer traces, fewer records or a census that asks for less are no
+/// comparison.
+const LEAST_TRACES: u64 = 2_192;
 const LEAST_RECORDS: u64 = 1_000_000;
+const LEAST_ASKED: u64 = 150;
 
 /// Styles, how many traces of each, and their records. Those that tell most
 /// mistakes apart come first. Setup faults come one to a trace, so short
@@ -126,12 +129,21 @@ pub fn count_trace(trace: &[u8], census: &Mutex<Census>) -> io::Result<()> {
 /// The traces are good for a comparison if they are enough and reach all
 /// that is asked for.
 fn count_census(census: &Census, tally: &mut Tally) {
-    if census.records() < LEAST_RECORDS {
-        tally.fail(&format!("fewer than {} records", LEAST_RECORDS));
-    } else {
-        tally.pass();
-    }
     let asked = census.asked();
+    for (name, count, least) in [
+        ("traces", census.traces(), LEAST_TRACES),
+        ("records", census.records(), LEAST_RECORDS),
+        ("names in the census", asked.len() as u64, LEAST_ASKED),
+    ] {
+        if count < least {
+            tally.fail(&format!(
+                "{} {}, and at least {} are due",
+                count, name, least
+            ));
+        } else {
+            tally.pass();
+        }
+    }
     for (name, count) in &asked {
         if *count == 0 {
             tally.fail(&format!("no trace reaches '{}'", name));

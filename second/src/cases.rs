@@ -20,6 +20,19 @@ struct Case {
     lines: Vec<u8>,
 }
 
+/// The traces of the cases in some folders, each with its case's name.
+pub fn traces(folders: &[String]) -> io::Result<Vec<(String, Vec<u8>)>> {
+    let mut traces = Vec::new();
+    for folder in folders {
+        for path in texts(Path::new(folder))? {
+            let case =
+                read(&path).map_err(|reason| io::Error::new(io::ErrorKind::Other, reason))?;
+            traces.push((format!("case {}", case.name), case.trace));
+        }
+    }
+    Ok(traces)
+}
+
 /// Runs the cases of some folders by themselves.
 pub fn run(ours: &str, folders: &[String], tally: Tally) -> io::Result<bool> {
     let pair = Pair::of(ours)?;

@@ -49,6 +49,10 @@ impl Census {
         add_each(&mut self.refusals, &other.refusals);
     }
 
+    pub fn traces(&self) -> u64 {
+        self.traces
+    }
+
     pub fn records(&self) -> u64 {
         self.records
     }

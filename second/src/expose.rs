@@ -6,31 +6,48 @@ use std::io;
 use std::sync::Mutex;
 use std::time::Duration;
 
-use crate::against::{samples, Sample, PATIENCE};
+use crate::against::{samples, PATIENCE};
+use crate::cases;
 use crate::pair::{on_all_cores, Pair};
 use crate::rules::Mutant;
 use crate::tally::Tally;
 use crate::text::assemble;
 use crate::watch::{Feed, Program, Watch};
 
+/// Mutants that only stored cases tell apart: what it takes is too rare for
+/// generated traces.
+const BY_CASES_ALONE: [Mutant; 4] = [
+    Mutant::CostLimitOneMore,
+    Mutant::ThinAtNode,
+    Mutant::DebtLimitOneMore,
+    Mutant::RatesBeforePhase,
+];
+
 /// Tries all wrong programs. The answer is whether each was noticed.
-pub fn run(first_seed: u64, tally: Tally) -> io::Result<bool> {
+pub fn run(first_seed: u64, folders: &[String], tally: Tally) -> io::Result<bool> {
+    let stored = cases::traces(folders)?;
     let samples = samples(first_seed);
     let tally = Mutex::new(tally);
     on_all_cores(Mutant::ALL.len(), PATIENCE, |watch, place| {
-        let exposed = expose(place + 1, &samples, watch)?;
-        let name = Mutant::ALL[place].name();
+        let mutant = Mutant::ALL[place];
+        let name = format!("mutant {}, {}", place + 1, mutant.name());
+        let by_case = expose(place + 1, watch, stored.iter().cloned().map(Ok))?;
+        let made = samples
+            .iter()
+            .map(|sample| Ok((sample.name(), sample.trace()?)));
+        let by_trace = if BY_CASES_ALONE.contains(&mutant) {
+            Some("not asked of generated traces".to_string())
+        } else {
+            expose(place + 1, watch, made)?
+        };
         let mut tally = tally.lock().unwrap();
-        match exposed {
-            None => tally.fail(&format!(
-                "no trace tells mutant {} apart: {}",
-                place + 1,
-                name
-            )),
-            Some(told) => {
-                println!("mutant {}, {}: {}", place + 1, name, told);
+        match (by_case, by_trace) {
+            (Some(by_case), Some(by_trace)) => {
+                println!("{}: {}; {}", name, by_case, by_trace);
                 tally.pass();
             }
+            (None, _) => tally.fail(&format!("no stored case tells {} apart", name)),
+            (_, None) => tally.fail(&format!("no generated trace tells {} apart", name)),
         }
         Ok(())
     })?;
@@ -56,18 +73,22 @@ pub fn run(first_seed: u64, tally: Tally) -> io::Result<bool> {
     Ok(tally.close())
 }
 
-/// Compares a mutant with the true rules on one trace after another, up to
-/// the first on which they differ.
-fn expose(number: usize, samples: &[Sample], watch: &Watch) -> io::Result<Option<String>> {
+/// Compares a mutant with the true rules on one trace after another, each
+/// with its name, up to the first on which they differ.
+fn expose(
+    number: usize,
+    watch: &Watch,
+    traces: impl Iterator<Item = io::Result<(String, Vec<u8>)>>,
+) -> io::Result<Option<String>> {
     let pair = Pair {
         ours: Program::this(&["mutant", &number.to_string(), "replay"])?,
         second: Program::this(&["replay"])?,
     };
-    for sample in samples {
-        let trace = sample.trace()?;
+    for trace in traces {
+        let (name, trace) = trace?;
         if let Some(failure) = pair.run(watch, &trace, Feed::Named)? {
             let line = failure.reason.lines().next().unwrap_or("").to_string();
-            return Ok(Some(format!("{} in {}", line, sample.name())));
+            return Ok(Some(format!("{} in {}", line, name)));
         }
     }
     Ok(None)

@@ -116,7 +116,7 @@ fn run(words: &[&str]) -> Done {
         }
         ["expose", rest @ ..] => {
             let options = Options::read(rest)?;
-            expose::run(options.seed, options.tally()).map_err(said)
+            expose::run(options.seed, &options.cases, options.tally()).map_err(said)
         }
         ["help" | "-h" | "--help"] => {
             println!("{}", USAGE);

@@ -5,7 +5,7 @@ use std::fmt::Debug;
 use std::io::{self, Write};
 
 use crate::controller::{Answer, Controller, MAX_ELAPSED, MAX_PERIOD, MAX_VIRTUAL_TIME};
-use crate::cost::{Bio, Model, Rates, FORCED, WRITE};
+use crate::cost::{Bio, Model, Rates, Side, FORCED, WRITE};
 use crate::generate::{generate, Style};
 use crate::leaf::relative_cost;
 use crate::ledger::audit;
@@ -13,7 +13,7 @@ use crate::numbers::{members, Absolute, Relative};
 use crate::refusal::Refusal;
 use crate::replay::replay;
 use crate::rules::{Mutant, Rules};
-use crate::setup::{BENCH, PAPER};
+use crate::setup::{BENCH, LINUX, PAPER};
 use crate::text::{assemble, list};
 use crate::trace::{decode, encode, Reader, Record, LONGEST};
 use crate::tree::Tree;
@@ -35,6 +35,9 @@ impl Checks {
     }
 }
 
+/// Fewer checks are no test: a loop over nothing is no success.
+const LEAST: u64 = 736;
+
 /// A group of checks; a refusal ends it where none belongs.
 type Group = fn(&mut Checks) -> Result<(), Refusal>;
 
@@ -44,6 +47,7 @@ const GROUPS: &[(&str, Group)] = &[
     ("bench budget", bench_budget),
     ("bench plans", bench_plans),
     ("costs from outside", outside_costs),
+    ("presets of Linux", linux_prices),
     ("shares from outside", outside_shares),
     ("virtual time limit", virtual_time_limit),
     ("order of refusals at a tick", tick_refusal_order),
@@ -70,6 +74,11 @@ pub fn run(out: &mut impl Write) -> io::Result<bool> {
         }
     }
     noticed_faults(&mut checks)?;
+    let made = checks.passed + checks.failures.len() as u64;
+    if made < LEAST {
+        let said = format!("{} checks were made, and at least {} are due", made, LEAST);
+        checks.failures.push(said);
+    }
     for failure in &checks.failures {
         writeln!(out, "failed {}", failure)?;
     }
@@ -252,6 +261,23 @@ fn outside_costs(checks: &mut Checks) -> Result<(), Refusal> {
     checks.equal("paper random read", page(false, false), 117_399);
     checks.equal("paper sequential write", page(true, true), 34_777);
     checks.equal("paper random write", page(true, false), 45_579);
+    Ok(())
+}
+
+/// Page, sequential base and random base of each preset, read and written.
+fn linux_prices(checks: &mut Checks) -> Result<(), Refusal> {
+    let prices = [
+        ((23_538, 439, 2_679_165), (23_002, 415, 2_622_501)),
+        ((16_661, 0, 127_307), (28_975, 685, 8_345)),
+        ((8_383, 103_575, 109_016), (9_573, 25_204, 36_006)),
+        ((1_321, 59, 0), (2_351, 0, 0)),
+    ];
+    for ((name, rates), (read, write)) in LINUX.iter().zip(prices) {
+        let model = Model::new(rates, Rules::TRUE)?;
+        let price = |side: &Side| (side.page, side.sequential_base, side.random_base);
+        checks.equal(&format!("{} read", name), price(&model.read), read);
+        checks.equal(&format!("{} write", name), price(&model.write), write);
+    }
     Ok(())
 }
 

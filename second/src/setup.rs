@@ -27,6 +27,45 @@ pub const PAPER: Rates = Rates {
     wrandiops: 21_940,
 };
 
+/// The presets of Linux 6.1's block/blk-iocost.c by name. That of an SSD with
+/// many requests is the paper's.
+pub const LINUX: [(&str, Rates); 4] = [
+    (
+        "hdd",
+        Rates {
+            rbps: 174_019_176,
+            rseqiops: 41_708,
+            rrandiops: 370,
+            wbps: 178_075_866,
+            wseqiops: 42_705,
+            wrandiops: 378,
+        },
+    ),
+    (
+        "ssd_qd1",
+        Rates {
+            rbps: 245_855_193,
+            rseqiops: 61_575,
+            rrandiops: 6_946,
+            wbps: 141_365_009,
+            wseqiops: 33_716,
+            wrandiops: 26_796,
+        },
+    ),
+    ("ssd_dfl", PAPER),
+    (
+        "ssd_fast",
+        Rates {
+            rbps: 3_102_524_156,
+            rseqiops: 724_816,
+            rrandiops: 778_122,
+            wbps: 1_742_780_862,
+            wseqiops: 425_702,
+            wrandiops: 443_193,
+        },
+    ),
+];
+
 /// Parents and weights of the nodes from 1 on.
 type Nodes = Vec<(u8, u16)>;
 

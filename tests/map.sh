@@ -1,0 +1,95 @@
+#!/usr/bin/env bash
+# The documents against the files: every must-fail edit that docs/proof-map.md or docs/entries.md names is there, every edit that
+# is there is named in docs/proof-map.md or in a table of edits, and every path that README.md or docs/*.md names is there.
+# An edit is named as `crate/name`, or by its bare name in a table that says its crate: those of "What guards the rules" and
+# "What guards it" in the map, and the last column of the entries. The last line is 'N passed, M failed'.
+set -uo pipefail
+export LC_ALL=C
+cd "$(dirname "$0")/.." || exit 1
+source compare/common
+
+passed=0
+failed=0
+work=$(mktemp -d) || exit 1
+trap 'rm -rf "$work"' EXIT
+
+is() { # REASON TEST..: what is wrong if the test fails
+    local reason=$1
+    shift
+    if "$@"; then passed=$((passed + 1)); else failed=$((failed + 1)); printf 'FAILED: %s\n' "$reason"; fi
+}
+
+# What stands between backticks on standard input, one a line.
+quoted() { grep -o '`[^`]*`' | tr -d '`'; }
+
+# The rows of the tables below a heading of a file, up to the next heading, without their heads: FILE HEADING. A row that has
+# other cells than its table's rule has a bar within a cell, and is said to be a fault.
+rows() {
+    awk -F '|' -v heading="$2" -v faults="$work/faults" '
+        /^#/ { inside = ($0 ~ "^#+ " heading "$") }
+        !inside || !/^\|/ { if (held != "") print held; held = ""; cells = 0; next }
+        /^\|[-| ]*\|$/ { held = ""; cells = NF; next }
+        { if (held != "") print held; held = $0 }
+        held != "" && cells && NF != cells { print FILENAME ", line " FNR ": not " cells - 2 " cells" > faults }
+        END { if (held != "") print held }
+    ' "$1"
+}
+
+# A cell of a row: ROW NUMBER.
+cell() { printf '%s\n' "$1" | cut -d '|' -f "$(($2 + 1))"; }
+
+# Bare names of edits in a cell, each with its crate before it: CRATE CELL.
+of_crate() { printf '%s\n' "$2" | quoted | grep -E '^[a-z0-9_]+$' | sed "s|^|$1/|"; }
+
+# ---- the edits that are there
+for edit in crates/*/must-fail/*.edit; do
+    crate=${edit#crates/}
+    printf '%s/%s\n' "${crate%%/*}" "$(basename "$edit" .edit)"
+done | sort >"$work/there"
+
+# ---- those that the tables name
+rows docs/proof-map.md 'What guards the rules' >"$work/rows"
+while IFS= read -r row; do
+    mapfile -t crates < <(cell "$row" 2 | quoted)
+    IFS=';' read -r -a groups <<<"$(cell "$row" 3)"
+    is "the map has ${#groups[@]} groups of edits for ${#crates[@]} crates:$(cell "$row" 1)" [ "${#groups[@]}" -eq "${#crates[@]}" ]
+    for ((n = 0; n < ${#crates[@]}; n++)); do of_crate "${crates[n]}" "${groups[n]:-}"; done >>"$work/tables"
+done <"$work/rows"
+rows docs/proof-map.md 'What guards it' >"$work/rows.it"
+while IFS= read -r row; do
+    # The lie is in the first cell, or, where that is a wrong controller in words, in the second.
+    named=$(cell "$row" 1)
+    case $named in *'`'*) ;; *) named=$(cell "$row" 2) ;; esac
+    of_crate rules "$named" >>"$work/tables"
+done <"$work/rows.it"
+rows docs/entries.md 'Public entries' >"$work/rows.entries"
+while IFS= read -r row; do
+    function=$(cell "$row" 2 | quoted)
+    of_crate "${function%%::*}" "$(cell "$row" 4)" >>"$work/tables"
+done <"$work/rows.entries"
+
+for table in "$work/rows" "$work/rows.it" "$work/rows.entries"; do is "a table of edits has no row" [ -s "$table" ]; done
+is "$(cat "$work/faults" 2>&1)" [ ! -e "$work/faults" ]
+
+# ---- those that are named by crate and name, anywhere in the two
+crates=$(for crate in crates/*/; do basename "$crate"; done | paste -sd '|')
+cat docs/proof-map.md docs/entries.md | quoted | grep -E "^($crates)/[a-z0-9_]+$" | sort -u >"$work/written"
+quoted <docs/proof-map.md | grep -E "^($crates)/[a-z0-9_]+$" | cat - "$work/tables" | sort -u >"$work/named"
+
+sort -u "$work/written" "$work/tables" >"$work/all"
+while read -r edit; do
+    is "$edit is named, and there is no such edit" [ -f "crates/${edit%/*}/must-fail/${edit#*/}.edit" ]
+done <"$work/all"
+while read -r edit; do
+    is "$edit is there, and the map does not name it" grep -qxF "$edit" "$work/named"
+done <"$work/there"
+
+# ---- every path: the first word between backticks, if its first folder is one of ours; the kind of file may be left out
+is_there() { [ -e "$1" ] || compgen -G "$1.*" >"$work/found"; }
+for document in README.md docs/*.md; do
+    while read -r path; do
+        is "$document names $path, which is not there" is_there "$path"
+    done < <(quoted <"$document" | sed 's|^\./||; s/ .*//' | grep -E '^(\.ci|bench|cases|compare|crates|docs|examples|second|tests)/' | sort -u)
+done
+
+close_count "$passed" "$failed" 338
