@@ -116,7 +116,7 @@ pub fn run(mut c: Controller, trace: &[u8], place: usize, most: usize, out: &mut
     let mut left = most;
     while (0 < left) & (LINE_ROOM <= out.len() - count) {
         let here = at;
-        let read = trace::decoder::read_at(trace, here);
+        let read = trace::reader::read_from(trace, here);
         let call = call_of(read);
         at = next_place(read, here);
         left -= 1;

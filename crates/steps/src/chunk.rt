@@ -117,7 +117,7 @@ pub fn feed(mut s: Replay, trace: &[u8], place: usize, last: bool, out: &mut [u8
 {
     let mut at = place;
     let mut count: usize = 0;
-    let mut read = trace::decoder::read_at(trace, at);
+    let mut read = trace::reader::read_from(trace, at);
     let mut phase = s.phase;
     while !halts(last, read, out.len() - count, phase) {
         if runs(phase, read) {
@@ -126,7 +126,7 @@ pub fn feed(mut s: Replay, trace: &[u8], place: usize, last: bool, out: &mut [u8
             at = ran.place;
             let state = ran.state;
             s.state = state;
-            read = trace::decoder::read_at(trace, at);
+            read = trace::reader::read_from(trace, at);
         } else {
             let step = went(read, s, &mut out[count..]);
             count += step.count;
@@ -134,7 +134,7 @@ pub fn feed(mut s: Replay, trace: &[u8], place: usize, last: bool, out: &mut [u8
             let after = step.replay;
             phase = after.phase;
             s = after;
-            read = trace::decoder::read_at(trace, at);
+            read = trace::reader::read_from(trace, at);
         }
     }
     Fed {

@@ -123,7 +123,7 @@ pub fn step(mut s: Replay, trace: &[u8], at: usize, out: &mut [u8]) -> Stepped
             replay: s,
         };
     }
-    let read = trace::decoder::read_at(trace, at);
+    let read = trace::reader::read_from(trace, at);
     if runs(phase, read) {
         let ran = run(s.state, trace, at, 1, out);
         let state = ran.state;

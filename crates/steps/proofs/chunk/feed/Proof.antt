@@ -23,14 +23,14 @@ Inv-loop s₀ trace place last out₀ at₀ count₀ read₀ phase₀ s out at c
 abbrev μ-loop : tie.MeasureT-loop
 μ-loop s₀ trace place last out₀ at₀ count₀ read₀ phase₀ s out at count read phase = left trace at phase
 
-read-at-requires : tie.Need-read-at-requires Inv-loop μ-loop
-read-at-requires c κs = tt
+read-from-requires : tie.Need-read-from-requires Inv-loop μ-loop
+read-from-requires c κs = tt
 
 loop-holds : tie.Need-loop-holds Inv-loop μ-loop
 loop-holds c =
     let start = c .before .before .before in
     begun (start .args .last) (now (start .args .trace)) (start .args .place) (start .args .s) (now (start .args .out))
-    (c .read-at .result) (start .pre) (c .read-at .ensures)
+    (c .read-from .result) (start .pre) (c .read-from .ensures)
 
 sub-halts : tie.Need-sub-halts Inv-loop μ-loop
 sub-halts c = stands-left (c .loop .inv .front)
@@ -74,8 +74,8 @@ add-count c =
     let within = stands-fits (head .loop .inv .front) (runFrom _ _ _ _ _ .bytes) _ _ (ran .run .ensures .lines) (ran .run .kept .1 .1 .1 .1 .0) in
     omega (arith, within, start .good .1 .1 .1 .1 .0 .0)
 
-read-at-requires-2 : tie.Need-read-at-requires-2 Inv-loop μ-loop
-read-at-requires-2 c κs = tt
+read-from-requires-2 : tie.Need-read-from-requires-2 Inv-loop μ-loop
+read-from-requires-2 c κs = tt
 
 loop-less : tie.Need-loop-less Inv-loop μ-loop
 loop-less c =
@@ -91,7 +91,7 @@ loop-again c =
     let called = ran .before .before .before in
     let tested = called .before in
     run-turn (tested .before .before .loop .inv) (goes-at tested) (called .runs .ensures) (ran .before .before .if2 .taken) _ (ran .run .kept .1 .1 .1 .1 .0) (ran .run .ensures)
-    (c .read-at2 .ensures)
+    (c .read-from2 .ensures)
 
 sub-went : tie.Need-sub-went Inv-loop μ-loop
 sub-went c = stands-left (c .before .before .before .before .loop .inv .front)
@@ -121,8 +121,8 @@ add-count-2 c =
 next-place-requires : tie.Need-next-place-requires Inv-loop μ-loop
 next-place-requires c κs = tt
 
-read-at-requires-3 : tie.Need-read-at-requires-3 Inv-loop μ-loop
-read-at-requires-3 c κs = tt
+read-from-requires-3 : tie.Need-read-from-requires-3 Inv-loop μ-loop
+read-from-requires-3 c κs = tt
 
 loop-less-2 : tie.Need-loop-less-2 Inv-loop μ-loop
 loop-less-2 c =
@@ -135,7 +135,7 @@ loop-again-2 c =
     let gone = c .before .before .before .before .before .before in
     let tested = gone .before .before .before .before in
     turn (tested .before .before .loop .inv) (goes-at tested) (gone .went .kept .1 .1 .0) (gone .went .ensures) (c .before .before .next-place .ensures)
-    (c .read-at3 .ensures)
+    (c .read-from3 .ensures)
 
 pause-of-requires : tie.Need-pause-of-requires Inv-loop μ-loop
 pause-of-requires c κs = tt
@@ -154,7 +154,7 @@ feed-spec =
     (tie.spec
     Inv-loop
     μ-loop
-    read-at-requires
+    read-from-requires
     loop-holds
     sub-halts
     halts-requires
@@ -164,7 +164,7 @@ feed-spec =
     part-run-end
     run-requires
     add-count
-    read-at-requires-2
+    read-from-requires-2
     loop-less
     loop-again
     sub-went
@@ -173,7 +173,7 @@ feed-spec =
     went-requires
     add-count-2
     next-place-requires
-    read-at-requires-3
+    read-from-requires-3
     loop-less-2
     loop-again-2
     pause-of-requires

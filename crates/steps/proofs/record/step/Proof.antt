@@ -22,8 +22,8 @@ returns-2 c =
     let a = tested .before .before .before .before .args in
     steps-no-more (readAt (now (a .trace)) (a .at)) (a .s) (now (a .out)) (tested .before .if1 .left) (sym (tested .is-stopped .ensures) ∙ c .if2 .taken)
 
-read-at-requires : tie.Need-read-at-requires
-read-at-requires c κs = tt
+read-from-requires : tie.Need-read-from-requires
+read-from-requires c κs = tt
 
 runs-requires : tie.Need-runs-requires
 runs-requires c κs = tt
@@ -42,7 +42,7 @@ returns-3 c =
     let tested = going .before in
     let a = tested .before .before .before .before .args in
     steps-on (readAt (now (a .trace)) (a .at)) (a .s) (now (a .out)) (tested .before .if1 .left) (sym (tested .is-stopped .ensures) ∙ going .if2 .left)
-    (one-call (now (a .trace)) (a .at) (a .s) (now (a .out)) (called .before .read-at .ensures) (called .runs .ensures) (ran .before .before .if3 .taken) refl
+    (one-call (now (a .trace)) (a .at) (a .s) (now (a .out)) (called .before .read-from .ensures) (called .runs .ensures) (ran .before .before .if3 .taken) refl
     (tested .before .if1 .left) (ran .run .ensures))
 
 went-requires : tie.Need-went-requires
@@ -63,7 +63,7 @@ returns-4 c =
     let tested = going .before in
     let a = tested .before .before .before .before .args in
     steps-on (readAt (now (a .trace)) (a .at)) (a .s) (now (a .out)) (tested .before .if1 .left) (sym (tested .is-stopped .ensures) ∙ going .if2 .left)
-    (same-read (a .s) (now (a .out)) (called .before .read-at .ensures) (gone .went .ensures))
+    (same-read (a .s) (now (a .out)) (called .before .read-from .ensures) (gone .went .ensures))
 
 pub step-spec : {M : Type 1} → statement M
 step-spec =
@@ -72,7 +72,7 @@ step-spec =
     returns
     is-stopped-requires
     returns-2
-    read-at-requires
+    read-from-requires
     runs-requires
     run-requires
     same-length
