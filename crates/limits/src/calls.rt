@@ -7,7 +7,7 @@ use rules::cost::Rates;
 use rules::trace::Record;
 use rules::tree::Tree;
 
-pub fn start(case: &[u8], tree: Tree, rates: Rates) -> Controller
+pub(crate) fn start(case: &[u8], tree: Tree, rates: Rates) -> Controller
     ensures { λ r. ⌜ Sound r ⌝ }
 {
     let done = controller::start::start(tree, rates, 0);
@@ -17,7 +17,7 @@ pub fn start(case: &[u8], tree: Tree, rates: Rates) -> Controller
     state
 }
 
-pub fn submit(case: &[u8], c: Controller, bio: Bio) -> Controller
+pub(crate) fn submit(case: &[u8], c: Controller, bio: Bio) -> Controller
     requires { ⌜ Sound c ⌝ }
     ensures { λ r. ⌜ Sound r ⌝ }
 {
@@ -28,7 +28,7 @@ pub fn submit(case: &[u8], c: Controller, bio: Bio) -> Controller
     state
 }
 
-pub fn tick(case: &[u8], c: Controller, time: u64, lent: &mut [u32]) -> Controller
+pub(crate) fn tick(case: &[u8], c: Controller, time: u64, lent: &mut [u32]) -> Controller
     requires { ⌜ Sound c ⌝ }
     ensures { λ r. ⌜ Sound r ⌝ }
 {
@@ -40,7 +40,7 @@ pub fn tick(case: &[u8], c: Controller, time: u64, lent: &mut [u32]) -> Controll
     state
 }
 
-pub fn write(case: &[u8], r: Record, lent: &mut [u8]) {
+pub(crate) fn write(case: &[u8], r: Record, lent: &mut [u8]) {
     let answer = trace::encoder::write_to(r, lent);
     say::written(case, answer, lent);
 }

@@ -49,7 +49,7 @@ fn ids(lent: &[u32]) {
     }
 }
 
-pub fn started(case: &[u8], answer: Verdict) {
+pub(crate) fn started(case: &[u8], answer: Verdict) {
     opening(case);
     match answer {
         Verdict::Accepted => words(b"accepted"),
@@ -58,7 +58,7 @@ pub fn started(case: &[u8], answer: Verdict) {
     words(b"\n");
 }
 
-pub fn submitted(case: &[u8], answer: Answer) {
+pub(crate) fn submitted(case: &[u8], answer: Answer) {
     opening(case);
     match answer {
         Answer::Issued => words(b"issued"),
@@ -69,7 +69,7 @@ pub fn submitted(case: &[u8], answer: Answer) {
     words(b"\n");
 }
 
-pub fn ticked(case: &[u8], answer: Count, clock: Clock, lent: &[u32]) {
+pub(crate) fn ticked(case: &[u8], answer: Count, clock: Clock, lent: &[u32]) {
     opening(case);
     match answer {
         Count::Released(n) => {
@@ -87,7 +87,7 @@ pub fn ticked(case: &[u8], answer: Count, clock: Clock, lent: &[u32]) {
     words(b"\n");
 }
 
-pub fn written(case: &[u8], answer: Write, lent: &[u8]) {
+pub(crate) fn written(case: &[u8], answer: Write, lent: &[u8]) {
     opening(case);
     match answer {
         Write::Wrote(n) => {

@@ -33,14 +33,14 @@ fn model_m() -> Rates {
     }
 }
 
-pub fn fresh() -> Controller
+pub(crate) fn fresh() -> Controller
     ensures { λ r. ⌜ Sound r ⌝ }
 {
     calls::start(b"start with two leaves", two_leaves(), model_m())
 }
 
 // The same state at another virtual time, which may be any up to the limit.
-pub fn aged(mut c: Controller, vtime: u64) -> Controller
+pub(crate) fn aged(mut c: Controller, vtime: u64) -> Controller
     requires { ⌜ Sound c × (vtime ≤ vtimeMost) ⌝ }
     ensures { λ r. ⌜ (r ≡ agedTo vtime c) × Sound r ⌝ }
 {

@@ -1,10 +1,10 @@
--- What a chunk of a trace, and a whole trace, leave behind in a lent buffer that held o₀.
+-- What a chunk of a trace, and a whole trace, leave behind in a lent buffer that held o₀, and what is carried on.
 -- Assumes nothing.
 use mathlib.Core.Path.{_≡_}
 use mathlib.Core.Bool.{Bool}
 use mathlib.Core.List.{List, _++_}
-use Prim.Native.Nat.{ℕ, _≤_}
-use lib.ListN.{length, drop}
+use Prim.Native.Nat.{ℕ, _-_, _≤_}
+use lib.ListN.{length, take, drop}
 use Rattle.rules.specs.Replay.{replay}
 use Rattle.rules.specs.Chunks.{part, fed, whole, wholePart}
 use Rattle.rules.specs.Invariant.{Playing}
@@ -27,3 +27,7 @@ pub record Prints (trace : List ℕ) (r : Printed) (o₀ o : List ℕ) : Type 0 
   pub answers : r ≡ whole trace (length o₀)
   pub leaves : o ≡ wholePart trace (length o₀) .bytes ++ drop (length (wholePart trace (length o₀) .bytes)) o₀
   pub all : (n : ℕ) → r ≡ Bytes n → Written (replay trace) n o₀ o
+
+-- the bytes of a buffer that held b₀, from one place up to another: so many stand at its front, and the rest is as it was
+abbrev pub AtFront : ℕ → ℕ → ℕ → List ℕ → List ℕ → Type 0
+AtFront from to count b₀ b = (count ≡ to - from) × (b ≡ take (to - from) (drop from b₀) ++ drop (to - from) b₀)

@@ -1,13 +1,12 @@
 // A chunk of a trace: the records that are whole in it are replayed while the lent buffer has room for any record's
 // lines. What is cut at its end may be whole once more bytes come, so 17 is given at the trace's true end only.
 ghost use mathlib.Core.Path.{_≡_};
-ghost use mathlib.Core.List.{_++_};
-ghost use Prim.Native.Nat.{_-_, _≤_};
-ghost use lib.ListN.{length, take, drop};
+ghost use Prim.Native.Nat.{_≤_};
+ghost use lib.ListN.{length};
 ghost use Rattle.rules.specs.Replay.{beginning as beginningOf};
 ghost use Rattle.rules.specs.Chunks.{isCut, isEnd, wantsBytes, halts as haltsOf, pauseOf};
 ghost use Rattle.rules.specs.Invariant.{Playing};
-ghost use Rattle.steps.specs.Fed.{Feeds, Prints};
+ghost use Rattle.steps.specs.Fed.{Feeds, Prints, AtFront};
 use crate::record::is_stopped;
 use crate::record::went;
 use calls::LINE_ROOM;
@@ -161,7 +160,7 @@ pub fn whole(trace: &[u8], out: &mut [u8]) -> Printed
 // What is left of a chunk goes to its buffer's front, and the next bytes of the trace behind it.
 pub fn carry(buf: &mut [u8], from: usize, to: usize) -> usize
     requires { ⌜ (from ≤ to) × (to ≤ length (now buf)) ⌝ }
-    ensures { λ r. ⌜ (r ≡ to - from) × (now (buf .exit) ≡ take (to - from) (drop from (now (buf .entry))) ++ drop (to - from) (now (buf .entry))) ⌝ }
+    ensures { λ r. ⌜ AtFront from to r (now (buf .entry)) (now (buf .exit)) ⌝ }
 {
     let count = to - from;
     for i in 0..count {

@@ -3,4 +3,4 @@
 // answers is its own crate's, and so is what a line says.
 pub mod chunk;
 pub mod record;
-pub mod setup;
+mod setup;

@@ -21,13 +21,13 @@ use rules::trace::Read;
 use rules::trace::Record;
 
 // How many bytes were written, and the replay after it.
-pub struct After {
+pub(crate) struct After {
     pub count: usize,
     pub replay: Replay,
 }
 
 // "After R in setup, or 16 to 18, it stops".
-pub fn stopped(x: Refusal, s: Replay, out: &mut [u8]) -> After
+pub(crate) fn stopped(x: Refusal, s: Replay, out: &mut [u8]) -> After
     requires { ⌜ 5 ≤ length (now out) ⌝ }
     ensures { λ r. ⌜ Does (stopsAt x s) (r .count) (r .replay) (now (out .entry)) (now (out .exit)) ⌝ }
 {
@@ -72,7 +72,7 @@ fn carried(r: Record, s: Replay, out: &mut [u8]) -> After
     }
 }
 
-pub fn is_stopped(phase: Phase) -> bool
+pub(crate) fn is_stopped(phase: Phase) -> bool
     ensures { λ b. ⌜ b ≡ isStopped phase ⌝ }
 {
     match phase {
@@ -84,7 +84,7 @@ pub fn is_stopped(phase: Phase) -> bool
 }
 
 // What is read at a place, in a replay that has not stopped, if it is no call in its phase.
-pub fn went(read: Read, s: Replay, out: &mut [u8]) -> After
+pub(crate) fn went(read: Read, s: Replay, out: &mut [u8]) -> After
     requires { ⌜ Playing s × (5 ≤ length (now out)) × (runs (s .phase) read ≡ false) ⌝ }
     ensures { λ r. ⌜ Does (readStep read s) (r .count) (r .replay) (now (out .entry)) (now (out .exit)) ⌝ }
 {

@@ -32,7 +32,7 @@ fn grown(mut tree: Tree, parent: u8, weight: u16) -> Tree
 }
 
 // "In a trace a node record is checked for its own faults": those that start would find in the tree so far.
-pub fn node(parent: u8, weight: u16, mut s: Replay, out: &mut [u8]) -> After
+pub(crate) fn node(parent: u8, weight: u16, mut s: Replay, out: &mut [u8]) -> After
     requires { ⌜ Playing s × (5 ≤ length (now out)) ⌝ }
     ensures { λ r. ⌜ Does (recordStep (Record.Node parent weight) s) (r .count) (r .replay) (now (out .entry)) (now (out .exit)) ⌝ }
 {
@@ -52,7 +52,7 @@ pub fn node(parent: u8, weight: u16, mut s: Replay, out: &mut [u8]) -> After
     }
 }
 
-pub fn model(rates: Rates, s: Replay, out: &mut [u8]) -> After
+pub(crate) fn model(rates: Rates, s: Replay, out: &mut [u8]) -> After
     requires { ⌜ 5 ≤ length (now out) ⌝ }
     ensures { λ r. ⌜ Does (recordStep (Record.Model rates) s) (r .count) (r .replay) (now (out .entry)) (now (out .exit)) ⌝ }
 {
@@ -74,7 +74,7 @@ pub fn model(rates: Rates, s: Replay, out: &mut [u8]) -> After
     }
 }
 
-pub fn start(time: u64, s: Replay, out: &mut [u8]) -> After
+pub(crate) fn start(time: u64, s: Replay, out: &mut [u8]) -> After
     requires { ⌜ 5 ≤ length (now out) ⌝ }
     ensures { λ r. ⌜ Does (recordStep (Record.Start time) s) (r .count) (r .replay) (now (out .entry)) (now (out .exit)) ⌝ }
 {

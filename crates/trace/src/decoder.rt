@@ -7,14 +7,16 @@ use rules::trace::Read;
 use rules::trace::Record;
 ghost use mathlib.Core.Bool.{true};
 ghost use mathlib.Core.Path.{_≡_};
-ghost use Prim.Native.Nat.{_+_, _≤_, _<_, _^_};
-ghost use lib.ListN.{length, take, drop};
-ghost use Rattle.rules.specs.Trace.{numberOf, isKind, layout, total, fieldsFrom, recordOf, ratesOf, bioOf, readAt};
+ghost use Prim.Native.Nat.{_+_, _≤_, _<_};
+ghost use lib.ListN.{length};
+ghost use Rattle.rules.specs.Trace.{isKind, layout, total, recordOf, ratesOf, bioOf, readAt};
+ghost use Rattle.trace.specs.Answers.{ReadOnPaper};
+ghost use Rattle.trace.specs.Fields.{NumberAt, fieldsAt};
 
 // "numbers little-endian": the bytes of a number are taken from the last, which counts most, down to the first.
 fn number(bytes: &[u8], at: usize, width: usize) -> u64
     requires { ⌜ (at + width ≤ length (now bytes)) × (width ≤ 8) ⌝ }
-    ensures { λ r. ⌜ (r ≡ numberOf (take width (drop at (now (bytes .entry))))) × (r < 256 ^ width) ⌝ }
+    ensures { λ r. ⌜ NumberAt (now (bytes .entry)) at width r ⌝ }
 {
     let mut left = width;
     let mut n: u64 = 0;
@@ -35,7 +37,7 @@ fn wide(x: u8) -> u64
 // "2 model (six 8-byte .."
 fn rates_at(trace: &[u8], body: usize) -> Rates
     requires { ⌜ body + total (layout 2) ≤ length (now trace) ⌝ }
-    ensures { λ r. ⌜ r ≡ ratesOf (fieldsFrom (layout 2) (drop body (now (trace .entry)))) ⌝ }
+    ensures { λ r. ⌜ r ≡ ratesOf (fieldsAt 2 body (now (trace .entry))) ⌝ }
 {
     Rates {
         rbps: number(trace, body, 8),
@@ -50,7 +52,7 @@ fn rates_at(trace: &[u8], body: usize) -> Rates
 // "4 bio (node 1 .."
 fn bio_at(trace: &[u8], body: usize) -> Bio
     requires { ⌜ body + total (layout 4) ≤ length (now trace) ⌝ }
-    ensures { λ r. ⌜ r ≡ bioOf (fieldsFrom (layout 4) (drop body (now (trace .entry)))) ⌝ }
+    ensures { λ r. ⌜ r ≡ bioOf (fieldsAt 4 body (now (trace .entry))) ⌝ }
 {
     Bio {
         node: trace[body],
@@ -64,7 +66,7 @@ fn bio_at(trace: &[u8], body: usize) -> Bio
 // The record of a known kind whose body is whole.
 fn record_at(trace: &[u8], body: usize, kind: u8) -> Record
     requires { ⌜ (isKind kind ≡ true) × (body + total (layout kind) ≤ length (now trace)) ⌝ }
-    ensures { λ r. ⌜ r ≡ recordOf kind (fieldsFrom (layout kind) (drop body (now (trace .entry)))) ⌝ }
+    ensures { λ r. ⌜ r ≡ recordOf kind (fieldsAt kind body (now (trace .entry))) ⌝ }
 {
     match kind {
         1 => Record::Node(trace[body], number(trace, body + 1, 2) as u16),
@@ -80,6 +82,7 @@ fn record_at(trace: &[u8], body: usize, kind: u8) -> Record
 // "At the end it ..": any trace and any place have an answer.
 pub fn read_at(trace: &[u8], at: usize) -> Read
     ensures { λ r. ⌜ r ≡ readAt (now (trace .entry)) at ⌝ }
+    ensures number { λ r. ⌜ ReadOnPaper (now (trace .entry)) at r ⌝ }
 {
     if trace.len() < at {
         return Read::Refused(Refusal::CutShort);

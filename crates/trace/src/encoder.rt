@@ -8,8 +8,9 @@ use rules::trace::Write;
 ghost use mathlib.Core.Path.{_≡_};
 ghost use Prim.Native.Nat.{_+_, _≤_};
 ghost use lib.ListN.{length};
-ghost use Rattle.rules.specs.Trace.{bytesOf, layout, total, kindOf, fieldsOf, bodyOf, Fits, writing, writtenTo};
-ghost use Rattle.trace.specs.Laid.{laid};
+ghost use Rattle.rules.specs.Trace.{bytesOf, layout, total, kindOf};
+ghost use Rattle.trace.specs.Answers.{Writes, WriteOnPaper};
+ghost use Rattle.trace.specs.Laid.{laid, bodyLaid};
 
 // "numbers little-endian": the least byte first.
 fn put(lent: &mut [u8], at: usize, width: usize, number: u64)
@@ -28,7 +29,7 @@ fn put(lent: &mut [u8], at: usize, width: usize, number: u64)
 // "2 model (six 8-byte .."
 fn put_rates(rates: Rates, lent: &mut [u8])
     requires { ⌜ 1 + total (layout 2) ≤ length (now lent) ⌝ }
-    ensures { λ _. ⌜ now (lent .exit) ≡ laid (bodyOf (layout 2) (fieldsOf (Record.Model rates))) 1 (now (lent .entry)) ⌝ }
+    ensures { λ _. ⌜ now (lent .exit) ≡ bodyLaid 2 (Record.Model rates) (now (lent .entry)) ⌝ }
 {
     put(lent, 1, 8, rates.rbps);
     put(lent, 9, 8, rates.rseqiops);
@@ -41,7 +42,7 @@ fn put_rates(rates: Rates, lent: &mut [u8])
 // "4 bio (node 1 .."
 fn put_bio(bio: Bio, lent: &mut [u8])
     requires { ⌜ 1 + total (layout 4) ≤ length (now lent) ⌝ }
-    ensures { λ _. ⌜ now (lent .exit) ≡ laid (bodyOf (layout 4) (fieldsOf (Record.Bio bio))) 1 (now (lent .entry)) ⌝ }
+    ensures { λ _. ⌜ now (lent .exit) ≡ bodyLaid 4 (Record.Bio bio) (now (lent .entry)) ⌝ }
 {
     put(lent, 1, 1, bio.node as u64);
     put(lent, 2, 1, bio.flags as u64);
@@ -53,7 +54,7 @@ fn put_bio(bio: Bio, lent: &mut [u8])
 // "then a body whose .."
 fn put_body(r: Record, lent: &mut [u8])
     requires { ⌜ 1 + total (layout (kindOf r)) ≤ length (now lent) ⌝ }
-    ensures { λ _. ⌜ now (lent .exit) ≡ laid (bodyOf (layout (kindOf r)) (fieldsOf r)) 1 (now (lent .entry)) ⌝ }
+    ensures { λ _. ⌜ now (lent .exit) ≡ bodyLaid (kindOf r) r (now (lent .entry)) ⌝ }
 {
     match r {
         Record::Node(parent, weight) => {
@@ -72,7 +73,8 @@ fn put_body(r: Record, lent: &mut [u8])
 // "The writer writes any record whose numbers fit ..": that is every record, by the types of its fields. So what is
 // written reads back.
 pub fn write_to(r: Record, lent: &mut [u8]) -> Write
-    ensures { λ w. ⌜ (w ≡ writing r (now (lent .entry))) × (now (lent .exit) ≡ writtenTo r (now (lent .entry))) × Fits r ⌝ }
+    ensures { λ w. ⌜ Writes r w (now (lent .entry)) (now (lent .exit)) ⌝ }
+    ensures number { λ w. ⌜ WriteOnPaper r (now (lent .entry)) w ⌝ }
 {
     let kind = layout::kind_of(r);
     let len = layout::body_len(kind) + 1;

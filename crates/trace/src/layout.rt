@@ -5,7 +5,7 @@ ghost use mathlib.Core.Path.{_≡_};
 ghost use Rattle.rules.specs.Trace.{isKind, layout, total, kindOf};
 
 // "One byte of kind .."
-pub fn body_len(kind: u8) -> usize
+pub(crate) fn body_len(kind: u8) -> usize
     requires { ⌜ isKind kind ≡ true ⌝ }
     ensures { λ r. ⌜ r ≡ total (layout kind) ⌝ }
 {
@@ -21,7 +21,7 @@ pub fn body_len(kind: u8) -> usize
 }
 
 // "Setup: 1 node .. After start: .. 7 vrate"
-pub fn is_kind(kind: u8) -> bool
+pub(crate) fn is_kind(kind: u8) -> bool
     ensures { λ r. ⌜ r ≡ isKind kind ⌝ }
 {
     if kind < 1 {

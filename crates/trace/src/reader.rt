@@ -4,6 +4,7 @@ use crate::decoder;
 use rules::trace::Read;
 ghost use mathlib.Core.Path.{_≡_};
 ghost use Rattle.rules.specs.Trace.{readAt};
+ghost use Rattle.trace.specs.Answers.{ReadOnPaper};
 
 // "The reader keeps the .."
 pub struct Reader<'a> {
@@ -21,6 +22,7 @@ pub fn new<'a>(trace: &'a [u8]) -> Reader<'a>
 // What stands at its place.
 pub fn next<'a>(r: Reader<'a>) -> Read
     ensures { λ f. ⌜ f ≡ readAt (now (r .entry .trace)) (r .entry .at) ⌝ }
+    ensures number { λ f. ⌜ ReadOnPaper (now (r .entry .trace)) (r .entry .at) f ⌝ }
 {
     decoder::read_at(r.trace, r.at)
 }
@@ -35,6 +37,7 @@ pub fn moved<'a>(r: Reader<'a>, at: usize) -> Reader<'a>
 // The record at a place, for a caller that holds no reader.
 pub fn read_from(trace: &[u8], at: usize) -> Read
     ensures { λ f. ⌜ f ≡ readAt (now (trace .entry)) at ⌝ }
+    ensures number { λ f. ⌜ ReadOnPaper (now (trace .entry)) at f ⌝ }
 {
     next(moved(new(trace), at))
 }

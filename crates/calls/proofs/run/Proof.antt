@@ -62,7 +62,7 @@ again-at : (t : Turn) (call : Call) → t .before .call-of .result ≡ call → 
     Running (now (a .trace)) (now (a .out)) (a .most) (a .place) (a .t1) (putBack (head t .loop .out) (head t .loop .count) ys) d
     (t .next-place .result) (head t .loop .count + r) (head t .loop .left - 1)
 again-at t call e is {d} {r} ys answered kept =
-    called (head t .loop .inv) (t .before .before .read-from .ensures) (t .before .call-of .ensures) call (goes-at t .0) (goes-at t .1) e is
+    called (head t .loop .inv) (t .before .before .read-from .ensures .0) (t .before .call-of .ensures) call (goes-at t .0) (goes-at t .1) e is
     (t .next-place .ensures) r ys answered kept
 
 -- ---- the loop
@@ -96,7 +96,7 @@ same-length c = stands-kept (head (c .before .before) .loop .inv .front)
 returns : tie.Need-returns Inv-loop μ-loop
 returns c =
     let t = c .before .before in
-    no-call (head t .loop .inv) (t .before .before .read-from .ensures) (t .before .call-of .ensures) (c .enum-told .given .1)
+    no-call (head t .loop .inv) (t .before .before .read-from .ensures .0) (t .before .call-of .ensures) (c .enum-told .given .1)
 
 -- ---- a bio
 enum-known-call : tie.Need-enum-known-call Inv-loop μ-loop

@@ -30,7 +30,7 @@ loop-holds : tie.Need-loop-holds Inv-loop μ-loop
 loop-holds c =
     let start = c .before .before .before in
     begun (start .args .last) (now (start .args .trace)) (start .args .place) (start .args .s) (now (start .args .out))
-    (c .read-from .result) (start .pre) (c .read-from .ensures)
+    (c .read-from .result) (start .pre) (c .read-from .ensures .0)
 
 sub-halts : tie.Need-sub-halts Inv-loop μ-loop
 sub-halts c = stands-left (c .loop .inv .front)
@@ -91,7 +91,7 @@ loop-again c =
     let called = ran .before .before .before in
     let tested = called .before in
     run-turn (tested .before .before .loop .inv) (goes-at tested) (called .runs .ensures) (ran .before .before .if2 .taken) _ (ran .run .kept .1 .1 .1 .1 .0) (ran .run .ensures)
-    (c .read-from2 .ensures)
+    (c .read-from2 .ensures .0)
 
 sub-went : tie.Need-sub-went Inv-loop μ-loop
 sub-went c = stands-left (c .before .before .before .before .loop .inv .front)
@@ -135,7 +135,7 @@ loop-again-2 c =
     let gone = c .before .before .before .before .before .before in
     let tested = gone .before .before .before .before in
     turn (tested .before .before .loop .inv) (goes-at tested) (gone .went .kept .1 .1 .0) (gone .went .ensures) (c .before .before .next-place .ensures)
-    (c .read-from3 .ensures)
+    (c .read-from3 .ensures .0)
 
 pause-of-requires : tie.Need-pause-of-requires Inv-loop μ-loop
 pause-of-requires c κs = tt

@@ -42,7 +42,7 @@ returns-3 c =
     let tested = going .before in
     let a = tested .before .before .before .before .args in
     steps-on (readAt (now (a .trace)) (a .at)) (a .s) (now (a .out)) (tested .before .if1 .left) (sym (tested .is-stopped .ensures) ∙ going .if2 .left)
-    (one-call (now (a .trace)) (a .at) (a .s) (now (a .out)) (called .before .read-from .ensures) (called .runs .ensures) (ran .before .before .if3 .taken) refl
+    (one-call (now (a .trace)) (a .at) (a .s) (now (a .out)) (called .before .read-from .ensures .0) (called .runs .ensures) (ran .before .before .if3 .taken) refl
     (tested .before .if1 .left) (ran .run .ensures))
 
 went-requires : tie.Need-went-requires
@@ -63,7 +63,7 @@ returns-4 c =
     let tested = going .before in
     let a = tested .before .before .before .before .args in
     steps-on (readAt (now (a .trace)) (a .at)) (a .s) (now (a .out)) (tested .before .if1 .left) (sym (tested .is-stopped .ensures) ∙ going .if2 .left)
-    (same-read (a .s) (now (a .out)) (called .before .read-from .ensures) (gone .went .ensures))
+    (same-read (a .s) (now (a .out)) (called .before .read-from .ensures .0) (gone .went .ensures))
 
 pub step-spec : {M : Type 1} → statement M
 step-spec =

@@ -9,6 +9,7 @@ use lib.ListN.{length, getD, drop}
 use borrow.Author.Tests.{not-true, not-false}
 use Rattle.rules.specs.Trace.{isKind, layout, total, recordOf, fieldsFrom, behind, readAt}
 use Rattle.rules.specs.Laws.Trace.{beyond-is-cut, end-at-the-end, unknown-is-refused, short-is-cut, whole-is-found}
+use Rattle.trace.proofs.Papers.{with-number}
 use Rattle.rules.specs.declared.refusals.Refusal.the-variants.{CutShort}
 use Rattle.rules.specs.declared.trace.Record.{Record}
 use Rattle.rules.specs.declared.trace.Read.the-variants.{Found, Refused}
@@ -28,10 +29,10 @@ module _ (l : List ℕ) (at len : ℕ) (inside : at < length l) (known : isKind 
   whole h r e = rw (e, body) (sym (whole-is-found l at inside known (omega arith)))
 
 returns : tie.Need-returns
-returns c = sym (beyond-is-cut _ _ (c .if1 .taken))
+returns c = with-number _ _ (sym (beyond-is-cut _ _ (c .if1 .taken)))
 
 returns-2 : tie.Need-returns-2
-returns-2 c = sym (end-at-the-end _ _ (c .if2 .taken))
+returns-2 c = with-number _ _ (sym (end-at-the-end _ _ (c .if2 .taken)))
 
 shared-slice-read-kind : tie.Need-shared-slice-read-kind
 shared-slice-read-kind c = search needs
@@ -42,8 +43,9 @@ is-kind-requires c κs = search needs
 returns-3 : tie.Need-returns-3
 returns-3 c =
     let start = c .before .before .before .before .before .before in
-    sym (unknown-is-refused (start .args .trace .now) (start .args .at) (shared-slice-read-kind (c .before .before))
-    (sym (c .before .is-kind .ensures) ∙ not-true _ (c .if3 .taken)))
+    with-number _ _
+    (sym (unknown-is-refused (start .args .trace .now) (start .args .at) (shared-slice-read-kind (c .before .before))
+    (sym (c .before .is-kind .ensures) ∙ not-true _ (c .if3 .taken))))
 
 add-body : tie.Need-add-body
 add-body c = search needs
@@ -63,14 +65,16 @@ record-at-requires c κs = (body-len-requires (c .before .before) tt, omega (ari
 returns-4 : tie.Need-returns-4
 returns-4 c =
     let start = c .before .before .before .before .before .before .before .before .before in
-    whole (start .args .trace .now) (start .args .at) _ (shared-slice-read-kind (c .before .before .before .before .before))
-    (body-len-requires (c .before .before .before) tt) (c .before .before .body-len .ensures) (c .before .if4 .taken) _ (c .record-at .ensures)
+    with-number _ _
+    (whole (start .args .trace .now) (start .args .at) _ (shared-slice-read-kind (c .before .before .before .before .before))
+    (body-len-requires (c .before .before .before) tt) (c .before .before .body-len .ensures) (c .before .if4 .taken) _ (c .record-at .ensures))
 
 returns-5 : tie.Need-returns-5
 returns-5 c =
     let start = c .before .before .before .before .before .before .before .before in
-    cut (start .args .trace .now) (start .args .at) _ (shared-slice-read-kind (c .before .before .before .before))
-    (body-len-requires (c .before .before) tt) (c .before .body-len .ensures) (c .if4 .left)
+    with-number _ _
+    (cut (start .args .trace .now) (start .args .at) _ (shared-slice-read-kind (c .before .before .before .before))
+    (body-len-requires (c .before .before) tt) (c .before .body-len .ensures) (c .if4 .left))
 
 pub read-at-spec : {M : Type 1} → statement M
 read-at-spec =

@@ -5,6 +5,7 @@ use Prim.Native.Nat.{_+_}
 use native.Mathlib.Omega.{arith}
 use Rattle.rules.specs.Trace.{layout, total, kindOf}
 use Rattle.rules.specs.Laws.Trace.{kind-known}
+use Rattle.rules.specs.Laws.Refusals.{write-on-paper}
 use Rattle.trace.proofs.Written.{numbers-fit, body-most, too-short, body-room, kept, written}
 use borrow.Author.Needs.{needs}
 use Rattle.trace.proofs.encoder.write_to.Statement.{statement}
@@ -27,7 +28,7 @@ returns : tie.Need-returns
 returns c =
     let start = c .before .before .before .before in
     let short = too-short (start .args .r) (start .args .lent .now) _ (len-of (c .before)) (c .if1 .taken) in
-    (short .0, short .1, numbers-fit _ _ (start .good .0))
+    ((short .0, short .1, numbers-fit _ _ (start .good .0)), write-on-paper _ _ (short .0))
 
 slice-write-lent : tie.Need-slice-write-lent
 slice-write-lent c = search needs
@@ -51,7 +52,7 @@ returns-2 c =
     let known = put .before .before .before in
     let start = known .before .before .before in
     let all = written (start .args .r) (start .args .lent .now) _ (len-of known) (put .before .before .if1 .left) _ (known .before .kind-of .ensures) _ (put .put-body .ensures) in
-    (all .0, all .1, numbers-fit _ _ (start .good .0))
+    ((all .0, all .1, numbers-fit _ _ (start .good .0)), write-on-paper _ _ (all .0))
 
 pub write-to-spec : {M : Type 1} → statement M
 write-to-spec =
