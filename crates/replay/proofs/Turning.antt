@@ -13,23 +13,24 @@ use Rattle.rules.specs.Invariant.{Playing}
 use Rattle.rules.specs.declared.replay.Fed.{Fed}
 use Rattle.rules.specs.declared.replay.Pause.{Pause}
 use Rattle.rules.specs.declared.replay.Pause.the-variants.{Over, Bytes}
-use Rattle.replay.specs.Turns.{Stands, waiting, partOf, Replayed, Carried, Onward, Turned}
+use Rattle.replay.specs.Turns.{Stands, waiting, Ended, partOf, Replayed, Carried, Onward, Turned}
 use Rattle.replay.specs.declared.run.Standing.{Standing}
 use Rattle.replay.specs.declared.run.End.{End}
 use Rattle.replay.specs.declared.run.End.the-variants.{Over as EndOver, Unread, Unwritten}
 
 -- a run that ends keeps what it has
 pub ends-so : {pause : Pause} {s r : Standing} {e : End} (chunk after : List ℕ) → Stands s (length chunk)
-    → take (s .filled) after ≡ take (s .filled) chunk → (r .replay ≡ s .replay) × (r .filled ≡ s .filled) × (r .end ≡ e)
+    → take (s .filled) after ≡ take (s .filled) chunk → Ended e s r
     → (e ≡ EndOver → pause ≡ Over) → Onward pause s chunk r after
 ends-so {pause} {s} {r} {e} chunk after h front q why =
     let size : length (take (s .filled) after) ≡ s .filled = ap length front ∙ length-take-le (s .filled) chunk (h .1) in
     record {
       stands = (subst Playing (sym (q .0)) (h .0), omega (arith, q .1, size, length-take (s .filled) after));
+      put = q .2;
       same = q .0;
       next = [];
       behind = rw (q .1) (front ∙ sym (append-nil (take (s .filled) chunk)));
-      ends = λ g x. why (sym (q .2) ∙ x);
+      ends = λ g x. why (sym (q .3) ∙ x);
     }
 
 -- it did not end well where it could not read or write
@@ -43,7 +44,7 @@ unwritten-is-not-over e = cc
 pub stays-so : {pause : Pause} {s : Standing} (chunk : List ℕ) → Stands s (length chunk) → s .going ≡ true
     → Onward pause s chunk s chunk
 stays-so {pause} {s} chunk h on =
-    record { stands = h; same = refl; next = []; behind = sym (append-nil (take (s .filled) chunk)); ends = λ g x. cc }
+    record { stands = h; put = refl; same = refl; next = []; behind = sym (append-nil (take (s .filled) chunk)); ends = λ g x. cc }
 
 pub paused-so : {pause p : Pause} {s r : Standing} {chunk after : List ℕ} → pause ≡ p → Onward p s chunk r after
     → Onward pause s chunk r after
@@ -51,9 +52,9 @@ paused-so {pause} {p} {s} {r} {chunk} {after} e o = subst (λ (q : Pause). Onwar
 
 -- n of the bytes that a read left behind those that wait
 pub reads-so : {s r : Standing} (chunk ys rest : List ℕ) (n : ℕ) → Stands s (length chunk) → n ≤ length ys
-    → r .replay ≡ s .replay → r .filled ≡ s .filled + n → r .going ≡ true
+    → r .replay ≡ s .replay → r .filled ≡ s .filled + n → r .put ≡ s .put → r .going ≡ true
     → Onward Bytes s chunk r (take (s .filled) chunk ++ (ys ++ rest))
-reads-so {s} {r} chunk ys rest n h l same filled on =
+reads-so {s} {r} chunk ys rest n h l same filled put on =
     let front : List ℕ = take (s .filled) chunk in
     let size : length front ≡ s .filled = length-take-le (s .filled) chunk (h .1) in
     let after : List ℕ = front ++ (ys ++ rest) in
@@ -62,6 +63,7 @@ reads-so {s} {r} chunk ys rest n h l same filled on =
     let before : take (s .filled) after ≡ front = take-at front (ys ++ rest) (s .filled) size in
     record {
       stands = (subst Playing (sym same) (h .0), rw filled fits);
+      put = put;
       same = same;
       next = next;
       behind = rw filled (take-add (s .filled) n after ∙ ap (λ (l : List ℕ). l ++ next) before);
@@ -80,14 +82,16 @@ left-in-front chunk after from to h l e =
     ∙ sym (ap (drop from) cut ∙ drop-at (take from chunk) part from (length-take-le from chunk (omega arith)))
 
 -- a turn of its steps
-pub turns : {s a r : Standing} {chunk mid after out₀ out : List ℕ} {f : Fed} → Replayed s chunk out₀ out f → Carried f s chunk a mid
-    → Onward (f .pause) a mid r after → Turned s chunk (length out₀) r after
+pub turns : {s a r : Standing} {chunk mid after out₀ out : List ℕ} {f : Fed} {taken : ℕ} → Replayed s chunk out₀ out f
+    → Carried f taken s chunk a mid → Onward (f .pause) a mid r after → ((r .end ≡ Unwritten → ⊥) → taken ≡ f .count)
+    → Turned s chunk (length out₀) r after
 unfolding fed
-turns {s} {a} {r} {chunk} {mid} {after} {out₀} p k o =
+turns {s} {a} {r} {chunk} {mid} {after} {out₀} p k o all-taken =
     let all : r .replay ≡ partOf s chunk (length out₀) .replay = o .same ∙ k .same ∙ ap (λ (f : Fed). f .replay) (p .feeds .answers) in
     let left = k .left ∙ ap (λ (f : Fed). drop (f .place) (waiting s chunk)) (p .feeds .answers) in
     record {
       stands = o .stands;
+      puts = λ h. o .put ∙ k .put ∙ all-taken h ∙ p .feeds .lines .0;
       replayed = all;
       next = o .next;
       behind = o .behind ∙ ap (λ (l : List ℕ). l ++ o .next) left;

@@ -1,5 +1,6 @@
--- What one turn of a run does with the bytes that wait in the chunk buffer, and that a run of such turns prints what the whole
--- trace prints, if the system's read and write do what they say.
+-- What one turn of a run does with the bytes that wait in the chunk buffer and with its lines, and that a run of such turns
+-- prints what the whole trace prints. That the bytes which the writes took are those of the lines, and the bytes which the reads
+-- brought those of the trace, is what `Ran` takes for granted; that they are as many is in `Turned`.
 -- Assumes nothing.
 use mathlib.Core.Path.{_≡_, subst}
 use mathlib.Core.Bool.{true, false}
@@ -18,7 +19,8 @@ use Rattle.rules.specs.declared.replay.Pause.{Pause}
 use Rattle.rules.specs.declared.replay.Pause.the-variants.{Over}
 use Rattle.steps.specs.Fed.{Feeds}
 use Rattle.replay.specs.declared.run.Standing.{Standing}
-use Rattle.replay.specs.declared.run.End.the-variants.{Over as EndOver}
+use Rattle.replay.specs.declared.run.End.{End}
+use Rattle.replay.specs.declared.run.End.the-variants.{Over as EndOver, Unwritten}
 
 -- ---- where a run stands: the bytes that wait are within the chunk buffer, of so much room
 abbrev pub Stands : Standing → ℕ → Type 0
@@ -26,6 +28,10 @@ Stands s room = Playing (s .replay) × (s .filled ≤ room)
 
 abbrev pub waiting : Standing → List ℕ → List ℕ
 waiting s chunk = take (s .filled) chunk
+
+-- ---- a run that ends so keeps what it has
+abbrev pub Ended : End → Standing → Standing → Type 0
+Ended end s r = (r .replay ≡ s .replay) × (r .filled ≡ s .filled) × (r .put ≡ s .put) × (r .end ≡ end)
 
 -- ---- the steps of a turn
 -- what it replays, with so much room for lines
@@ -38,9 +44,10 @@ pub record Replayed (s : Standing) (chunk out₀ out : List ℕ) (f : Fed) : Typ
   pub fits : f .count ≤ length out
   pub inside : f .place ≤ s .filled
 
--- what they leave waits at the front
-pub record Carried (f : Fed) (s : Standing) (chunk : List ℕ) (r : Standing) (after : List ℕ) : Type 0 where
+-- what they leave waits at the front, and the writes took so many bytes
+pub record Carried (f : Fed) (taken : ℕ) (s : Standing) (chunk : List ℕ) (r : Standing) (after : List ℕ) : Type 0 where
   pub stands : Stands r (length after)
+  pub put : r .put ≡ taken
   pub goes : r .going ≡ true
   pub same : r .replay ≡ f .replay
   pub left : waiting r after ≡ drop (f .place) (waiting s chunk)
@@ -48,14 +55,16 @@ pub record Carried (f : Fed) (s : Standing) (chunk : List ℕ) (r : Standing) (a
 -- the replay stays, more bytes may come behind those that wait, and the run ends well only where the pause is the end
 pub record Onward (pause : Pause) (s : Standing) (chunk : List ℕ) (r : Standing) (after : List ℕ) : Type 0 where
   pub stands : Stands r (length after)
+  pub put : r .put ≡ s .put
   pub same : r .replay ≡ s .replay
   pub next : List ℕ
   pub behind : waiting r after ≡ waiting s chunk ++ next
   pub ends : r .going ≡ false → r .end ≡ EndOver → pause ≡ Over
 
--- ---- a turn
+-- ---- a turn. Its writes took as many bytes as its lines have, or the run ends as one that could not write
 pub record Turned (s : Standing) (chunk : List ℕ) (room : ℕ) (r : Standing) (after : List ℕ) : Type 0 where
   pub stands : Stands r (length after)
+  pub puts : (r .end ≡ Unwritten → ⊥) → r .put ≡ length (partOf s chunk room .bytes)
   pub replayed : r .replay ≡ partOf s chunk room .replay
   pub next : List ℕ
   pub behind : waiting r after ≡ drop (partOf s chunk room .place) (waiting s chunk) ++ next

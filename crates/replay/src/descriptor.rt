@@ -8,7 +8,7 @@ use libc::EINTR;
 
 // A proved loop has to end, and nothing says that a call succeeds at last or that a trace ends. So such a loop counts its
 // turns down, from a number that no run uses up.
-pub const TURNS: u64 = u64::MAX;
+pub(crate) const TURNS: u64 = u64::MAX;
 
 // Is the call that answered so just now worth making again?
 fn again(answer: isize) -> bool {
@@ -24,12 +24,12 @@ fn again(answer: isize) -> bool {
 }
 
 // What a read brought, which is nothing at the end and where it failed.
-pub struct Got {
+pub(crate) struct Got {
     pub count: usize,
     pub failed: bool,
 }
 
-pub fn read(fd: i32, buf: &mut [u8]) -> Got
+pub(crate) fn read(fd: i32, buf: &mut [u8]) -> Got
     ensures { λ r. ⌜ r .count ≤ length (now (buf .exit)) ⌝ }
 {
     let mut got = libc::read(fd, buf);
@@ -57,15 +57,18 @@ fn write_some(fd: i32, buf: &[u8]) -> usize
     io::count(put, buf)
 }
 
-// Was all of it written?
-pub fn write(fd: i32, buf: &[u8]) -> bool {
+// How many of the first bytes were taken: all of them, or fewer where a write failed. Each write is of what follows the
+// bytes that those before it took.
+pub(crate) fn write(fd: i32, buf: &[u8]) -> usize
+    ensures { λ r. ⌜ r ≤ length (now (buf .entry)) ⌝ }
+{
     let mut done: usize = 0;
     while done < buf.len() {
         let put = write_some(fd, &buf[done..]);
         if put == 0 {
-            return false;
+            return done;
         }
         done += put;
     }
-    true
+    done
 }

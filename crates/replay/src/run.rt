@@ -1,11 +1,17 @@
 // The loop: bytes come in and lines go out, turn by turn, in two buffers of a fixed size, however long the trace is. All
 // lines are written before the next read, which may wait.
+//
+// Proved is each turn (`specs/Turns`): what it replays, which lines then stand at the front of the line buffer, that it goes on
+// only where its writes took as many bytes as these lines have, what waits after it, and that a run ends well only where the
+// replay is over. No contract can say which bytes a write takes or a read brings. So three things are for a person to read:
+// that `turn` hands `write` the front of the line buffer, that `descriptor::write` and `read` hand the system what they are
+// lent, and that `run` begins at the beginning and goes from turn to turn.
 ghost use mathlib.Core.Path.{_≡_};
 ghost use mathlib.Core.Bool.{true};
 ghost use Prim.Native.Nat.{_≤_};
 ghost use lib.ListN.{length};
 ghost use Rattle.rules.specs.Invariant.{Playing};
-ghost use Rattle.replay.specs.Turns.{Stands, Replayed, Carried, Onward, Turned};
+ghost use Rattle.replay.specs.Turns.{Stands, Ended, Replayed, Carried, Onward, Turned};
 use crate::descriptor::TURNS;
 use crate::descriptor::read;
 use crate::descriptor::write;
@@ -19,25 +25,26 @@ use steps::chunk::carry;
 use steps::chunk::feed;
 
 // Why a run is over.
-pub enum End {
+pub(crate) enum End {
     Over,
     Unread,
     Unwritten,
 }
 
 // Where a run stands. The first `filled` bytes of the chunk buffer wait to be replayed, and if `last`, no more will come
-// after them; `total` bytes were read so far.
-pub struct Standing {
+// after them; `total` bytes were read so far, and the writes of the last turn took `put` bytes of its lines.
+pub(crate) struct Standing {
     pub replay: Replay,
     pub filled: usize,
     pub last: bool,
     pub total: u64,
+    pub put: usize,
     pub going: bool,
     pub end: End,
 }
 
 fn ended(s: Standing, end: End) -> Standing
-    ensures { λ r. ⌜ (r .replay ≡ s .replay) × (r .filled ≡ s .filled) × (r .end ≡ end) ⌝ }
+    ensures { λ r. ⌜ Ended end s r ⌝ }
 {
     let replay = s.replay;
     Standing {
@@ -45,6 +52,7 @@ fn ended(s: Standing, end: End) -> Standing
         filled: s.filled,
         last: s.last,
         total: s.total,
+        put: s.put,
         going: false,
         end,
     }
@@ -79,6 +87,7 @@ fn more(s: Standing, fd: i32, watched: bool, chunk: &mut [u8]) -> Standing
         filled: filled + got.count,
         last: got.count == 0,
         total: counted(s.total, got.count, watched),
+        put: s.put,
         going: true,
         end: End::Over,
     }
@@ -95,14 +104,11 @@ fn onward(pause: Pause, s: Standing, fd: i32, watched: bool, chunk: &mut [u8]) -
     }
 }
 
-fn flush(lines: &[u8], total: u64, watched: bool) -> bool {
-    if lines.len() == 0 {
-        return true;
-    }
-    if watched {
+// Before lines come, who watches sees no progress any more.
+fn cleared(count: usize, total: u64, watched: bool) {
+    if watched & (0 < count) {
         said::no_progress(total);
     }
-    write(STDOUT_FILENO, lines)
 }
 
 // The bytes that wait, as far as they go.
@@ -116,9 +122,9 @@ fn replayed(s: Standing, chunk: &[u8], out: &mut [u8]) -> Fed
 }
 
 // What they leave goes to the buffer's front.
-fn carried(fed: Fed, s: Standing, chunk: &mut [u8]) -> Standing
+fn carried(fed: Fed, put: usize, s: Standing, chunk: &mut [u8]) -> Standing
     requires { ⌜ Playing (fed .replay) × (fed .place ≤ s .filled) × (s .filled ≤ length (now chunk)) ⌝ }
-    ensures { λ r. ⌜ Carried fed s (now (chunk .entry)) r (now (chunk .exit)) ⌝ }
+    ensures { λ r. ⌜ Carried fed put s (now (chunk .entry)) r (now (chunk .exit)) ⌝ }
 {
     let replay = fed.replay;
     Standing {
@@ -126,6 +132,7 @@ fn carried(fed: Fed, s: Standing, chunk: &mut [u8]) -> Standing
         filled: carry(chunk, fed.place, s.filled),
         last: s.last,
         total: s.total,
+        put,
         going: true,
         end: End::Over,
     }
@@ -137,16 +144,18 @@ fn turn(s: Standing, fd: i32, watched: bool, chunk: &mut [u8], out: &mut [u8]) -
     ensures { λ r. ⌜ Turned s (now (chunk .entry)) (length (now (out .entry))) r (now (chunk .exit)) ⌝ }
 {
     let fed = replayed(s, chunk, out);
-    let after = carried(fed, s, chunk);
     let count = fed.count;
-    if !flush(&out[0..count], s.total, watched) {
+    cleared(count, s.total, watched);
+    let put = write(STDOUT_FILENO, &out[0..count]);
+    let after = carried(fed, put, s, chunk);
+    if put < count {
         return ended(after, End::Unwritten);
     }
     let pause = fed.pause;
     onward(pause, after, fd, watched, chunk)
 }
 
-pub fn run(fd: i32) -> End {
+pub(crate) fn run(fd: i32) -> End {
     let watched = said::is_watched();
     let mut chunk = io::large_buffer();
     let mut out = io::large_buffer();
@@ -155,6 +164,7 @@ pub fn run(fd: i32) -> End {
         filled: 0,
         last: false,
         total: 0,
+        put: 0,
         going: true,
         end: End::Over,
     };

@@ -15,21 +15,21 @@ fn unread() {
     os::fail(b" (name a trace file, or none to read standard input)");
 }
 
-pub fn too_many() {
+pub(crate) fn too_many() {
     say(b"replay: too many arguments: name one trace file, or none to read standard input\n");
 }
 
-pub fn argument_unread() {
+pub(crate) fn argument_unread() {
     say(b"replay: cannot read its argument");
     unread();
 }
 
-pub fn input_unread() {
+pub(crate) fn input_unread() {
     say(b"replay: cannot read standard input");
     unread();
 }
 
-pub fn output_unwritten() {
+pub(crate) fn output_unwritten() {
     say(b"replay: cannot write standard output");
     os::fail(b" (make room there, or send it elsewhere)");
 }
@@ -53,7 +53,7 @@ fn make_plain(name: &mut [u8]) {
     }
 }
 
-pub fn file_unread(path: &mut [u8]) {
+pub(crate) fn file_unread(path: &mut [u8]) {
     make_plain(path);
     say(b"replay: cannot read '");
     say(path);
@@ -62,14 +62,14 @@ pub fn file_unread(path: &mut [u8]) {
 }
 
 // Progress is for who waits at a terminal and sees no lines come.
-pub fn is_watched() -> bool {
+pub(crate) fn is_watched() -> bool {
     if libc::isatty(STDERR_FILENO) != 1 {
         return false;
     }
     libc::isatty(STDOUT_FILENO) != 1
 }
 
-pub fn progress(total: u64) {
+pub(crate) fn progress(total: u64) {
     let megabytes = total / MEGABYTE;
     if megabytes == 0 {
         return;
@@ -80,7 +80,7 @@ pub fn progress(total: u64) {
 }
 
 // Where nothing may be left: before the lines go on, since a write to a pipe that nobody reads any more ends the program.
-pub fn no_progress(total: u64) {
+pub(crate) fn no_progress(total: u64) {
     if total < MEGABYTE {
         return;
     }

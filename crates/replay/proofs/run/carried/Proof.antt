@@ -21,9 +21,10 @@ returns c =
     let p = c .before .before .before .before .before .before .pre in
     let cut = ap (λ (n : ℕ). take n (c .before .before .carry .last .0)) (k .0) in
     record {
-      stands = (p .0, omega (arith, k .0));
-      goes = refl;
       same = refl;
+      stands = (p .0, omega (arith, k .0));
+      put = refl;
+      goes = refl;
       left = cut ∙ left-in-front _ _ _ _ (p .1) (p .2) (k .1);
     }
 

@@ -47,7 +47,7 @@ returns-2 : tie.Need-returns-2
 returns-2 c =
     let b = c .before .before .before .before .before .before .before .before .before .before in
     let got = c .before .before .before .before .before .before .before .read in
-    reads-so (b .args .chunk .now) (got .last .1 .0) _ (got .result .count) (b .pre) (got .ensures) refl refl refl
+    reads-so (b .args .chunk .now) (got .last .1 .0) _ (got .result .count) (b .pre) (got .ensures) refl refl refl refl
 
 pub more-spec : {M : Type 1} → statement M
 more-spec =

@@ -1,6 +1,9 @@
--- `replay::run::turn` meets its contract: a feed, what it leaves, and onward, or the end where the lines are not written.
+-- `replay::run::turn` meets its contract: a feed, its lines written, what it leaves, and onward, or the end where not all was taken.
 -- Assumes nothing.
-use mathlib.Core.Path.{refl}
+use mathlib.Core.Path.{_≡_, refl}
+use Prim.Native.Nat.{_≤_}
+use native.Mathlib.Omega.{arith}
+use lib.ListN.{length-take}
 use Rattle.replay.proofs.Turning.{ends-so, unwritten-is-not-over, turns}
 use borrow.Author.Needs.{needs}
 use Rattle.replay.proofs.run.turn.Statement.{statement}
@@ -9,20 +12,31 @@ use Rattle.replay.proofs.run.turn.Tie as tie
 replayed-requires : tie.Need-replayed-requires
 replayed-requires c κs = search needs
 
+cleared-requires : tie.Need-cleared-requires
+cleared-requires c κs = search needs
+
+sub-write : tie.Need-sub-write
+sub-write c = search needs
+
+part-write-start : tie.Need-part-write-start
+part-write-start c = search needs
+
+part-write-end : tie.Need-part-write-end
+part-write-end c = search needs
+
+write-requires : tie.Need-write-requires
+write-requires c κs = search needs
+
 carried-requires : tie.Need-carried-requires
 carried-requires c κs = search needs
 
-sub-flush : tie.Need-sub-flush
-sub-flush c = search needs
+-- where the lines stand in the buffer
+abbrev fed : tie.After-carried → tie.After-out
+fed k = k .before .before .before .before .before .before .before
 
-part-flush-start : tie.Need-part-flush-start
-part-flush-start c = search needs
-
-part-flush-end : tie.Need-part-flush-end
-part-flush-end c = search needs
-
-flush-requires : tie.Need-flush-requires
-flush-requires c κs = search needs
+-- a write takes no more than it is handed
+no-more : (k : tie.After-carried) → k .before .before .write .result ≤ fed k .before .replayed .result .count
+no-more k = omega (arith, simp length-take at (k .before .before .write .ensures))
 
 ended-requires : tie.Need-ended-requires
 ended-requires c κs = search needs
@@ -31,14 +45,14 @@ same-length : tie.Need-same-length
 same-length c = search needs
 
 same-length-2 : tie.Need-same-length-2
-same-length-2 c = search needs
+same-length-2 c = fed (c .before .before .before .before) .out .given
 
 returns : tie.Need-returns
 returns c =
-    let b = c .before .before .before .before .before .before .before in
-    let mid = b .carried .last .1 .1 .0 in
-    let stops = ends-so mid mid (b .carried .ensures .stands) refl (c .ended .ensures) unwritten-is-not-over in
-    turns (b .before .before .before .before .replayed .ensures) (b .carried .ensures) stops
+    let k = c .before .before .before .before in
+    let mid = k .carried .last .1 .1 .1 .0 in
+    let stops = ends-so mid mid (k .carried .ensures .stands) refl (c .ended .ensures) unwritten-is-not-over in
+    turns (fed k .before .replayed .ensures) (k .carried .ensures) stops (λ h. absurd (h (c .ended .ensures .3)))
 
 onward-requires : tie.Need-onward-requires
 onward-requires c κs = search needs
@@ -47,23 +61,25 @@ same-length-3 : tie.Need-same-length-3
 same-length-3 c = search needs
 
 same-length-4 : tie.Need-same-length-4
-same-length-4 c = search needs
+same-length-4 c = fed (c .before .before .before .before .before .before .before) .out .given
 
 returns-2 : tie.Need-returns-2
 returns-2 c =
-    let b = c .before .before .before .before .before .before .before .before .before .before in
-    turns (b .before .before .before .before .replayed .ensures) (b .carried .ensures) (c .before .before .onward .ensures)
+    let tested = c .before .before .before .before in
+    let k = tested .before .before .before in
+    turns (fed k .before .replayed .ensures) (k .carried .ensures) (c .before .before .onward .ensures) (λ h. omega (arith, no-more k, tested .if1 .left))
 
 pub turn-spec : {M : Type 1} → statement M
 turn-spec =
     tie.close
     (tie.spec
     replayed-requires
+    cleared-requires
+    sub-write
+    part-write-start
+    part-write-end
+    write-requires
     carried-requires
-    sub-flush
-    part-flush-start
-    part-flush-end
-    flush-requires
     ended-requires
     same-length
     same-length-2
