@@ -92,4 +92,5 @@ for document in README.md docs/*.md; do
     done < <(quoted <"$document" | sed 's|^\./||; s/ .*//' | grep -E '^(\.ci|bench|cases|compare|crates|docs|examples|second|tests)/' | sort -u)
 done
 
-close_count "$passed" "$failed" 338
+# The documents may say a path less; none of the loops above may run over nothing.
+close_count "$passed" "$failed" 330
