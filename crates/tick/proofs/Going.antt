@@ -209,26 +209,26 @@ withClock k c = record {
 }
 
 module _ {c : Controller} (sound : Sound c) {g : Virt} (time : ℕ) (gain : g ≡ growth (c .clock) time)
-    {lent : List ℕ} {s : Controller} {out : List ℕ} {at n : ℕ} (going : Going g c lent s out at n) (all : n ≡ nodesMost) where
+    {lent : List ℕ} {s : Controller} {out : List ℕ} {at n : ℕ} (going : Going g c lent s out at n) where
   clock-stays : s .clock ≡ c .clock
   clock-stays = ap (λ (k : Controller). k .clock) (going .rest)
 
   pub clock-near : {places : ℕ} → TickPasses time places c → Near time (s .clock) × (g ≡ growth (s .clock) time)
   clock-near passes = (rw clock-stays (passing-is-near sound passes), gain ∙ ap (λ (k : Clock). growth k time) (sym clock-stays))
 
-  all-ids : idsBelow g c n ≡ releases (growth (c .clock) time) c
+  all-ids : n ≡ nodesMost → idsBelow g c n ≡ releases (growth (c .clock) time) c
   unfolding releases
-  all-ids = rw (all, gain)
+  all-ids all = rw (all, gain)
 
-  pub ends : {k : Clock} → k ≡ advanced time (s .clock)
+  pub ends : n ≡ nodesMost → {k : Clock} → k ≡ advanced time (s .clock)
       → (_≡_ {A = Ticked} (record { answer = Released at; state = withClock k s }) (tickedBy Accepted time c))
       × (out ≡ lentBy Accepted time lent c)
   unfolding tickedBy lentBy lentAfter tick
-  ends {k} ek =
+  ends all {k} ek =
       let rows : s .rows ≡ table (rowOf (growth (c .clock) time) c) = rw gain at (places-done (rowOf g c) (c .rows) (s .rows) n (sound .rows-all) (going .rows) all) in
       let queues : s .queues ≡ table (queueOf (growth (c .clock) time) c) = rw gain at (places-done (queueOf g c) (c .queues) (s .queues) n (sound .queues-all) (going .queues) all) in
       let clock : k ≡ advanced time (c .clock) = ek ∙ ap (advanced time) clock-stays in (
         ap (λ (x : Controller). record { answer = Released at; state = withClock k x }) (going .rest)
-            ∙ rw (rows, queues, clock, going .front .front .0, all-ids),
-        going .front .front .1 ∙ ap (λ (ids : List ℕ). lentAfter ids lent) all-ids,
+            ∙ rw (rows, queues, clock, going .front .front .0, all-ids all),
+        going .front .front .1 ∙ ap (λ (ids : List ℕ). lentAfter ids lent) (all-ids all),
       )

@@ -14,6 +14,20 @@ sum-over-requires c κs = search needs
 sum-over-requires-2 : tie.Need-sum-over-requires-2
 sum-over-requires-2 c κs = search needs
 
+-- above the needs that a lie about it may leave true: the first error is what is false
+hand : (c : tie.After-takers)
+    → let a = c .before .before .before .before .before .args in
+    Handing (a .active) (a .donors) (c .before .before .before .before .sum-over .result - c .before .before .before .sum-over2 .result)
+    (a .bases .now) (a .targets .now) (c .before .floors .result) (c .takers .result)
+hand c =
+    let b = c .before .before in
+    let s = b .before .before .sum-over .ensures in
+    handing (b .before .before .before .pre) (sub-same s (b .before .sum-over2 .ensures)) (sub-same s (b .sum-over3 .ensures))
+    (c .before .floors .result) (c .takers .result) (c .before .floors .ensures) (c .takers .ensures)
+
+returns : tie.Need-returns
+returns c = hand (c .before .before .before) .out (sub-same refl (c .before .sum-over4 .ensures)) (c .lowest .ensures)
+
 sub-left : tie.Need-sub-left
 sub-left c = omega (arith, c .sum-over2 .ensures, c .before .sum-over .ensures, targets-within (c .before .before .pre))
 
@@ -33,16 +47,6 @@ takers-requires c κs = search needs
 
 sum-over-requires-4 : tie.Need-sum-over-requires-4
 sum-over-requires-4 c κs = search needs
-
-hand : (c : tie.After-takers)
-    → let a = c .before .before .before .before .before .args in
-    Handing (a .active) (a .donors) (c .before .before .before .before .sum-over .result - c .before .before .before .sum-over2 .result)
-    (a .bases .now) (a .targets .now) (c .before .floors .result) (c .takers .result)
-hand c =
-    let b = c .before .before in
-    let s = b .before .before .sum-over .ensures in
-    handing (b .before .before .before .pre) (sub-same s (b .before .sum-over2 .ensures)) (sub-same s (b .sum-over3 .ensures))
-    (c .before .floors .result) (c .takers .result) (c .before .floors .ensures) (c .takers .ensures)
 
 sub-rest : tie.Need-sub-rest
 sub-rest c = rw (c .sum-over4 .ensures) (hand (c .before .before) .within)
@@ -69,9 +73,6 @@ mul-shares-2 c = search needs
 
 array-write-shares : tie.Need-array-write-shares
 array-write-shares c = search needs
-
-returns : tie.Need-returns
-returns c = hand (c .before .before .before) .out (sub-same refl (c .before .sum-over4 .ensures)) (c .lowest .ensures)
 
 pub donated-spec : {M : Type 1} → statement M
 donated-spec =

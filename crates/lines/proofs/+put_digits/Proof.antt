@@ -74,6 +74,14 @@ module _ (t : ℕ) where
       let start = c .before .before in
       short (start .args .n) (now (start .args .out)) (start .pre .1) (omega (arith, c .if1 .taken)) .front
 
+  -- above the needs that a lie about it may leave true: the first error is what is false
+  returns-2 : lts.Need-returns-2 (less t, reads.Post) (here t) reads.Post
+  returns-2 c =
+      let called = c .before .before in
+      let start = called .before .before .before .before in
+      long (start .args .n) (now (start .args .out)) (start .pre .1) (omega (arith, called .before .before .if1 .left)) (start .fits .n .fits) (called .put-digits .result)
+      (called .put-digits .last .1 .0) (called .put-digits .ensures) .front
+
   put-digits-requires : lts.Need-put-digits-requires (less t, reads.Post) (here t) reads.Post
   put-digits-requires c κs =
       let start = c .before .before .before in (
@@ -99,13 +107,6 @@ module _ (t : ℕ) where
 
   same-length-2 : lts.Need-same-length-2 (less t, reads.Post) (here t) reads.Post
   same-length-2 c = search needs
-
-  returns-2 : lts.Need-returns-2 (less t, reads.Post) (here t) reads.Post
-  returns-2 c =
-      let called = c .before .before in
-      let start = called .before .before .before .before in
-      long (start .args .n) (now (start .args .out)) (start .pre .1) (omega (arith, called .before .before .if1 .left)) (start .fits .n .fits) (called .put-digits .result)
-      (called .put-digits .last .1 .0) (called .put-digits .ensures) .front
 
 pub +put-digits-spec : {M : Type 1} → statement M
 +put-digits-spec = close μ λ t. lts.spec (less t, reads.Post) (here t) reads.Post (add-out t) (cast-out t) (slice-write-out t) (same-length t) (returns t)

@@ -18,6 +18,16 @@ room-requires c κs = search needs
 enum-told : tie.Need-enum-told
 enum-told c = search needs
 
+-- above the needs that a lie about it may leave true: the first error is what is false
+returns : tie.Need-returns
+returns c =
+    let taking = c .before .before .before in
+    let judging = taking .before .before .before in
+    let forcing = judging .before .before in
+    accepts (forcing .before .pre) (forcing .is-forced .ensures) (judging .before .answer-to .ensures) (judging .room .ensures)
+    (taking .before .enum-told .given .1) (c .before .before .end-of .ensures) (taking .row-after .ensures) (c .before .noted .ensures)
+    (c .queue-after .ensures)
+
 row-after-requires : tie.Need-row-after-requires
 row-after-requires c κs =
     let judging = c .before .before in
@@ -40,15 +50,6 @@ queue-after-requires c κs =
 
 enum-known-verdict : tie.Need-enum-known-verdict
 enum-known-verdict c = search needs
-
-returns : tie.Need-returns
-returns c =
-    let taking = c .before .before .before in
-    let judging = taking .before .before .before in
-    let forcing = judging .before .before in
-    accepts (forcing .before .pre) (forcing .is-forced .ensures) (judging .before .answer-to .ensures) (judging .room .ensures)
-    (taking .before .enum-told .given .1) (c .before .before .end-of .ensures) (taking .row-after .ensures) (c .before .noted .ensures)
-    (c .queue-after .ensures)
 
 returns-2 : tie.Need-returns-2
 returns-2 c =

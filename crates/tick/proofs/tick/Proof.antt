@@ -73,7 +73,7 @@ returns-2 c =
     let a = start .args in
     refuses (a .time) (now (a .out)) (a .t1)
     (too-few-places (a .time) (length (now (a .out))) (a .t1) (checked .verdict .ensures) (at .before .enum-told .given .1)
-    (all-counted (start .pre) (at .loop .inv) (omega (arith, c .before .loop-test .left))) (c .if1 .taken))
+    (all-counted (start .pre) (at .loop .inv) (omega (arith, c .before .loop-test .left))) (omega (arith, c .if1 .taken)))
 
 -- the clock's checks and the places were passed
 abbrev start : tie.Else1 Inv-loop μ-loop → tie.Start Inv-loop μ-loop

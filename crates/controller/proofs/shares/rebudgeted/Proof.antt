@@ -64,6 +64,17 @@ element-copy-out-wide-2 c = search needs
 wide-requires-2 : tie.Need-wide-requires-2 Inv-loop μ-loop
 wide-requires-2 c κs = search needs
 
+-- above the needs that a lie about it may leave true: the first error is what is false
+loop-again : tie.Need-loop-again Inv-loop μ-loop
+loop-again c =
+    let at = c .before .before .before .before .before .before .before .before in
+    let start = at .before in (
+      omega arith,
+      step (start .args .before .now) (start .args .after .now) (start .args .rows) (at .loop .next) (at .loop .n) (rows-64 start) (at .loop .inv .1) (search needs)
+          (c .rebudget .result)
+          (rw (← c .before .before .before .wide .ensures, ← c .before .wide2 .ensures) (c .rebudget .ensures)),
+    )
+
 rebudget-requires : tie.Need-rebudget-requires Inv-loop μ-loop
 rebudget-requires c κs =
     let at = c .before .before .before .before .before .before .before in
@@ -83,16 +94,6 @@ add-n c = search needs
 
 loop-less : tie.Need-loop-less Inv-loop μ-loop
 loop-less c = search needs
-
-loop-again : tie.Need-loop-again Inv-loop μ-loop
-loop-again c =
-    let at = c .before .before .before .before .before .before .before .before in
-    let start = at .before in (
-      omega arith,
-      step (start .args .before .now) (start .args .after .now) (start .args .rows) (at .loop .next) (at .loop .n) (rows-64 start) (at .loop .inv .1) (search needs)
-          (c .rebudget .result)
-          (rw (← c .before .before .before .wide .ensures, ← c .before .wide2 .ensures) (c .rebudget .ensures)),
-    )
 
 returns : tie.Need-returns Inv-loop μ-loop
 returns c =

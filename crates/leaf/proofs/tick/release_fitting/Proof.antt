@@ -42,6 +42,20 @@ mul-out-2 c = search needs
 slice-write-out : tie.Need-slice-write-out Inv-loop μ-loop
 slice-write-out c = search needs
 
+-- above the needs that a lie about it may leave true: the first error is what is false
+loop-again : tie.Need-loop-again Inv-loop μ-loop
+loop-again c =
+    let test = c .before .before .before in
+    let place = test .before .before .before in
+    let at = place .before .before .loop in
+    let cost = cost-is-oldest (at .queue) (place .place .ensures) in
+    goes-on (at .inv) (omega (arith, place .before .loop-test .taken))
+    (first-told (at .inv) cost (test .before .fits2 .ensures) (test .if1 .taken))
+    cost
+    (id-is-oldest (at .queue) (place .place .ensures))
+    (c .before .charged .ensures)
+    (c .popped .ensures)
+
 charged-requires : tie.Need-charged-requires Inv-loop μ-loop
 charged-requires c κs =
     let test = c .before in
@@ -51,7 +65,7 @@ charged-requires c κs =
     first-is-payable (at .inv) cost (first-told (at .inv) cost (test .before .fits2 .ensures) (test .if1 .taken))
 
 popped-requires : tie.Need-popped-requires Inv-loop μ-loop
-popped-requires c κs = (c .before .before .before .before .before .before .before .loop .inv .ready .waiting .head-in, c .before .before .before .before .before .before .loop-test .taken)
+popped-requires c κs = (c .before .before .before .before .before .before .before .loop .inv .ready .waiting .head-in, omega (arith, c .before .before .before .before .before .before .loop-test .taken))
 
 add-count : tie.Need-add-count Inv-loop μ-loop
 add-count c =
@@ -59,20 +73,7 @@ add-count c =
     omega (arith, at .loop .inv .room, c .before .before .before .before .before .before .before .loop-test .taken, at .before .before .good)
 
 loop-less : tie.Need-loop-less Inv-loop μ-loop
-loop-less c = popped-is-shorter (c .before .before .before .before .before .before .before .before .loop .queue) (c .popped .ensures) (c .before .before .before .before .before .before .before .loop-test .taken)
-
-loop-again : tie.Need-loop-again Inv-loop μ-loop
-loop-again c =
-    let test = c .before .before .before in
-    let place = test .before .before .before in
-    let at = place .before .before .loop in
-    let cost = cost-is-oldest (at .queue) (place .place .ensures) in
-    goes-on (at .inv) (place .before .loop-test .taken)
-    (first-told (at .inv) cost (test .before .fits2 .ensures) (test .if1 .taken))
-    cost
-    (id-is-oldest (at .queue) (place .place .ensures))
-    (c .before .charged .ensures)
-    (c .popped .ensures)
+loop-less c = popped-is-shorter (c .before .before .before .before .before .before .before .before .loop .queue) (c .popped .ensures) (omega (arith, c .before .before .before .before .before .before .before .loop-test .taken))
 
 same-length : tie.Need-same-length Inv-loop μ-loop
 same-length c = c .before .before .before .before .before .loop .inv .size

@@ -51,6 +51,25 @@ element-copy-out-queue c = search needs
 mul-turn : tie.Need-mul-turn Inv-loop μ-loop
 mul-turn c = search needs
 
+-- above the needs that a lie about it may leave true: the first error is what is false
+loop-again : tie.Need-loop-again Inv-loop μ-loop
+loop-again c =
+    let has = c .before in
+    let at = has .before .before in
+    let grown = at .before in
+    let start = grown .before .before .before in
+    let sound = start .pre .0 in
+    let h : at .loop .n < 64 = omega (arith, has .before .loop-test .taken) in
+    ⊎-elim
+    (λ w.
+    same-going (w .12) (w .13) (w .14)
+    (active-turns sound (grown .growth .result) (at .loop .inv) h (start .pre .1 .room)
+    (has .has .ensures) (w .0 .taken) (w .2 .ensures) (w .6 .ensures .0) (w .6 .ensures .1)))
+    (λ w.
+    same-going (w .1) (w .2) (w .3)
+    (idle-passes sound (grown .growth .result) (at .loop .inv) h (has .has .ensures) (w .0 .left)))
+    (c .if1 .came)
+
 sub-turn : tie.Need-sub-turn Inv-loop μ-loop
 sub-turn c = stands-left (c .before .before .before .before .before .before .before .loop .inv .front)
 
@@ -107,30 +126,12 @@ add-n c = search needs
 loop-less : tie.Need-loop-less Inv-loop μ-loop
 loop-less c = search needs
 
-loop-again : tie.Need-loop-again Inv-loop μ-loop
-loop-again c =
-    let has = c .before in
-    let at = has .before .before in
-    let grown = at .before in
-    let start = grown .before .before .before in
-    let sound = start .pre .0 in
-    let h : at .loop .n < 64 = omega (arith, has .before .loop-test .taken) in
-    ⊎-elim
-    (λ w.
-    same-going (w .12) (w .13) (w .14)
-    (active-turns sound (grown .growth .result) (at .loop .inv) h (start .pre .1 .room)
-    (has .has .ensures) (w .0 .taken) (w .2 .ensures) (w .6 .ensures .0) (w .6 .ensures .1)))
-    (λ w.
-    same-going (w .1) (w .2) (w .3)
-    (idle-passes sound (grown .growth .result) (at .loop .inv) h (has .has .ensures) (w .0 .left)))
-    (c .if1 .came)
-
 advanced-requires : tie.Need-advanced-requires Inv-loop μ-loop
 advanced-requires c κs =
     let at = c .before .before in
     let grown = at .before in
     let start = grown .before .before .before in
-    clock-near (start .pre .0) (start .args .time) (grown .growth .ensures) (at .loop .inv) (omega (arith, c .before .loop-test .left, at .loop .inv .upto)) (start .pre .1)
+    clock-near (start .pre .0) (start .args .time) (grown .growth .ensures) (at .loop .inv) (start .pre .1)
 
 same-length : tie.Need-same-length Inv-loop μ-loop
 same-length c = stands-kept (c .before .before .before .loop .inv .front)

@@ -32,18 +32,7 @@ element-copy-out-wide c = search needs
 wide-requires : tie.Need-wide-requires Inv-loop μ-loop
 wide-requires c κs = search needs
 
-remove-requires : tie.Need-remove-requires Inv-loop μ-loop
-remove-requires c κs =
-    let l = c .before .before .before .before in
-    let u : getD (l .before .args .parents .now) (l .loop .node) 0 < l .loop .node = l .before .pre .0 (l .loop .node) (search needs) (search needs) in
-    omega (arith, c .wide .ensures)
-
-add-node : tie.Need-add-node Inv-loop μ-loop
-add-node c = search needs
-
-loop-less : tie.Need-loop-less Inv-loop μ-loop
-loop-less c = search needs
-
+-- above the needs that a lie about it may leave true: the first error is what is false
 loop-again : tie.Need-loop-again Inv-loop μ-loop
 loop-again c =
     let l = c .before .before .before .before .before in
@@ -55,6 +44,18 @@ loop-again c =
           leaves-cut ps ws (l .loop .node) (l .loop .inv .0) up (c .before .wide .ensures) (l .loop .inv .2 ws)
           (c .before .before .before .insert .ensures) (c .remove .ensures),
     )
+
+remove-requires : tie.Need-remove-requires Inv-loop μ-loop
+remove-requires c κs =
+    let l = c .before .before .before .before in
+    let u : getD (l .before .args .parents .now) (l .loop .node) 0 < l .loop .node = l .before .pre .0 (l .loop .node) (search needs) (search needs) in
+    omega (arith, c .wide .ensures)
+
+add-node : tie.Need-add-node Inv-loop μ-loop
+add-node c = search needs
+
+loop-less : tie.Need-loop-less Inv-loop μ-loop
+loop-less c = search needs
 
 returns : tie.Need-returns Inv-loop μ-loop
 returns c = λ ws. let at = c .before .before .args in
