@@ -32,7 +32,7 @@ const NEAR_MOST: u64 = 32768;
 // "Cost .. at most 2^31".
 const COST_MOST: u64 = 2147483648;
 
-pub fn in_range(bio: Bio) -> bool
+fn in_range(bio: Bio) -> bool
     ensures { λ r. ⌜ r ≡ bioInRange bio ⌝ }
 {
     (SECTOR_BYTES <= bio.bytes)
@@ -42,7 +42,7 @@ pub fn in_range(bio: Bio) -> bool
         & (bio.flags < FLAGS_END)
 }
 
-pub fn is_write(bio: Bio) -> bool
+fn is_write(bio: Bio) -> bool
     ensures { λ r. ⌜ r ≡ isWrite bio ⌝ }
 {
     bio.flags % 2 == 1
@@ -66,7 +66,7 @@ fn is_near(sector: u64, end: u64) -> bool
 }
 
 // "A leaf's first is .."
-pub fn is_sequential(row: Row, bio: Bio) -> bool
+fn is_sequential(row: Row, bio: Bio) -> bool
     ensures { λ r. ⌜ r ≡ isSequential row bio ⌝ }
 {
     row.begun & is_near(bio.sector, row.end)

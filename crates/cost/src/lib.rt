@@ -6,10 +6,7 @@ pub mod pricing;
 
 pub use crate::bio::cost_of;
 pub use crate::bio::end_of;
-pub use crate::bio::in_range;
 pub use crate::bio::is_forced;
-pub use crate::bio::is_sequential;
-pub use crate::bio::is_write;
 pub use crate::pricing::price;
 
 const PAGE_BYTES: u64 = 4096;

@@ -18,7 +18,7 @@ fn counted(inside: bool, share: u32) -> u64
 }
 
 // What the members of a set have together: S, D and T are such sums.
-pub fn sum_over(set: u64, shares: &[u32; 64]) -> u64
+fn sum_over(set: u64, shares: &[u32; 64]) -> u64
     ensures { λ r. ⌜ r ≡ sumOver (member set) (now (shares .entry)) ⌝ }
 {
     let mut sum: u64 = 0;
@@ -31,7 +31,7 @@ pub fn sum_over(set: u64, shares: &[u32; 64]) -> u64
 }
 
 // The takers are the active leaves that are no donors.
-pub fn takers(active: u64, donors: u64) -> u64
+fn takers(active: u64, donors: u64) -> u64
     ensures { λ r. ⌜ r ≡ setOf (isTaker active donors) ⌝ }
 {
     (active | donors) ^ donors

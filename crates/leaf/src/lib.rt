@@ -5,7 +5,7 @@ ghost use mathlib.Core.Path.{_≡_};
 ghost use Prim.Native.Nat.{min};
 
 pub mod plan;
-pub mod queue;
+mod queue;
 pub mod row;
 pub mod submission;
 pub mod tick;

@@ -12,7 +12,7 @@ use rules::units::Abs;
 use rules::units::Virt;
 
 // "FLOOR(d / 2) is .."
-pub fn forgiveness(quiet: bool, debt: Abs) -> Abs
+fn forgiveness(quiet: bool, debt: Abs) -> Abs
     ensures { λ r. ⌜ r ≡ forgivenessOf quiet debt ⌝ }
 {
     if quiet { Abs(debt.0 / 2) } else { Abs(0) }
@@ -28,7 +28,7 @@ pub fn forgiven(quiet: bool, row: Row) -> Row
 }
 
 // A leaf that does not stay active loses its budget.
-pub fn rested(stay: bool, row: Row) -> Row
+fn rested(stay: bool, row: Row) -> Row
     ensures { λ r. ⌜ r ≡ restedOf stay row ⌝ }
 {
     if stay {
@@ -63,7 +63,7 @@ pub fn stays(row: Row, waiting: u8) -> bool
 }
 
 // "let u = CEIL(min(usage .."
-pub fn used_share(since: Virt, usage: Abs) -> u64
+fn used_share(since: Virt, usage: Abs) -> u64
     requires { ⌜ (0 < since .0) × (since .0 ≤ sinceMost) ⌝ }
     ensures { λ r. ⌜ r ≡ usedShare since usage ⌝ }
 {

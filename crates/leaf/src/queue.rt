@@ -17,7 +17,7 @@ pub(crate) fn place(at: u8) -> usize
     at as usize
 }
 
-pub fn pushed(id: u32, cost: Abs, mut queue: Queue) -> Queue
+pub(crate) fn pushed(id: u32, cost: Abs, mut queue: Queue) -> Queue
     requires { ⌜ (queue .head < queueRoom) × (queue .len < queueRoom) ⌝ }
     ensures { λ r. ⌜ r ≡ pushedOf id cost queue ⌝ }
 {
@@ -28,7 +28,7 @@ pub fn pushed(id: u32, cost: Abs, mut queue: Queue) -> Queue
     queue
 }
 
-pub fn popped(mut queue: Queue) -> Queue
+pub(crate) fn popped(mut queue: Queue) -> Queue
     requires { ⌜ (queue .head < queueRoom) × (0 < queue .len) ⌝ }
     ensures { λ r. ⌜ r ≡ poppedOf queue ⌝ }
 {

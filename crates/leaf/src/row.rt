@@ -8,14 +8,14 @@ use rules::budget::Row;
 use rules::units::Abs;
 use rules::units::Virt;
 
-pub fn owes(row: Row) -> bool
+pub(crate) fn owes(row: Row) -> bool
     ensures { λ r. ⌜ r ≡ owesOf row ⌝ }
 {
     0 < row.debt.0
 }
 
 // "relative cost <= budget"
-pub fn fits(cost: Abs, share: u64, row: Row) -> bool
+pub(crate) fn fits(cost: Abs, share: u64, row: Row) -> bool
     requires { ⌜ Priced cost share ⌝ }
     ensures { λ r. ⌜ r ≡ fitsOf cost share row ⌝ }
 {
@@ -23,14 +23,14 @@ pub fn fits(cost: Abs, share: u64, row: Row) -> bool
     relative.0 <= row.budget.0
 }
 
-pub fn with_budget(budget: Virt, mut row: Row) -> Row
+pub(crate) fn with_budget(budget: Virt, mut row: Row) -> Row
     ensures { λ r. ⌜ r ≡ withBudget budget row ⌝ }
 {
     row.budget = budget;
     row
 }
 
-pub fn with_debt(debt: Abs, mut row: Row) -> Row
+pub(crate) fn with_debt(debt: Abs, mut row: Row) -> Row
     ensures { λ r. ⌜ r ≡ withDebt debt row ⌝ }
 {
     row.debt = debt;
@@ -38,7 +38,7 @@ pub fn with_debt(debt: Abs, mut row: Row) -> Row
 }
 
 // Charged: the budget falls by the relative cost, the usage grows by the absolute one.
-pub fn charged(cost: Abs, share: u64, mut row: Row) -> Row
+pub(crate) fn charged(cost: Abs, share: u64, mut row: Row) -> Row
     requires { ⌜ Payable cost share row ⌝ }
     ensures { λ r. ⌜ r ≡ chargedOf cost share row ⌝ }
 {

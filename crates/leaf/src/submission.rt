@@ -13,7 +13,7 @@ use rules::refusals::Answer;
 use rules::units::Abs;
 
 // "2. Unforced: .."
-pub fn unforced_answer(cost: Abs, share: u64, row: Row, waiting: u8) -> Answer
+fn unforced_answer(cost: Abs, share: u64, row: Row, waiting: u8) -> Answer
     requires { ⌜ Priced cost share ⌝ }
     ensures { λ r. ⌜ r ≡ answerWith false cost share row waiting ⌝ }
 {
@@ -31,7 +31,7 @@ pub fn unforced_answer(cost: Abs, share: u64, row: Row, waiting: u8) -> Answer
 }
 
 // "3. Forced: .."
-pub fn forced_answer(cost: Abs, share: u64, row: Row) -> Answer
+fn forced_answer(cost: Abs, share: u64, row: Row) -> Answer
     requires { ⌜ Priced cost share ⌝ }
     ensures { λ r. ⌜ r ≡ answerWith true cost share row 0 ⌝ }
 {

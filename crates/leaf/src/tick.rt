@@ -25,7 +25,7 @@ pub struct Turned {
 }
 
 // "the budget gains that .."
-pub fn gained(gain: Virt, row: Row) -> Row
+fn gained(gain: Virt, row: Row) -> Row
     requires { ⌜ row .budget .0 + gain .0 < 2 ^ 64 ⌝ }
     ensures { λ r. ⌜ r ≡ gainedOf gain row ⌝ }
 {
@@ -33,7 +33,7 @@ pub fn gained(gain: Virt, row: Row) -> Row
 }
 
 // "p = the smaller .."
-pub fn repayment(share: u64, row: Row) -> Abs
+fn repayment(share: u64, row: Row) -> Abs
     requires { ⌜ row .budget .0 * share < 2 ^ 64 ⌝ }
     ensures { λ r. ⌜ r ≡ repaymentOf share row ⌝ }
 {
@@ -43,7 +43,7 @@ pub fn repayment(share: u64, row: Row) -> Abs
 }
 
 // "if it owes, it repays p = .., and the budget falls by .."
-pub fn repaid(share: u64, row: Row) -> Row
+fn repaid(share: u64, row: Row) -> Row
     requires { ⌜ CanRepay share row ⌝ }
     ensures { λ r. ⌜ r ≡ repaidOf share row ⌝ }
 {
@@ -57,7 +57,7 @@ pub fn repaid(share: u64, row: Row) -> Row
 }
 
 // "waiting bios are released .."
-pub fn release_fitting(share: u64, mut row: Row, mut queue: Queue, out: &mut [u32]) -> Turned
+fn release_fitting(share: u64, mut row: Row, mut queue: Queue, out: &mut [u32]) -> Turned
     requires { ⌜ CanRelease share row queue × (queue .len ≤ length (now out)) ⌝ }
     ensures { λ r. ⌜ (r ≡ turned (releaseIn (queue .len) share row queue)) × (now (out .exit) ≡ lentAfter (releaseIn (queue .len) share row queue .ids) (now (out .entry))) ⌝ }
 {
@@ -78,7 +78,7 @@ pub fn release_fitting(share: u64, mut row: Row, mut queue: Queue, out: &mut [u3
 }
 
 // "if it now owes nothing, .."
-pub fn released(share: u64, row: Row, queue: Queue, out: &mut [u32]) -> Turned
+fn released(share: u64, row: Row, queue: Queue, out: &mut [u32]) -> Turned
     requires { ⌜ CanRelease share row queue × (queue .len ≤ length (now out)) ⌝ }
     ensures { λ r. ⌜ (r ≡ turned (releasedOf share row queue)) × (now (out .exit) ≡ lentAfter (releasedOf share row queue .ids) (now (out .entry))) ⌝ }
 {
@@ -94,7 +94,7 @@ pub fn released(share: u64, row: Row, queue: Queue, out: &mut [u32]) -> Turned
 }
 
 // "last, if it owes nothing and nothing waits, a budget above 2^27 .."
-pub fn capped(row: Row, waiting: u8) -> Row
+fn capped(row: Row, waiting: u8) -> Row
     ensures { λ r. ⌜ r ≡ cappedWith row waiting ⌝ }
 {
     if row::owes(row) {

@@ -41,7 +41,7 @@ pub fn number_of(x: Refusal) -> u64
 }
 
 // Decimal digits without leading zeros: those of a tenth, then the last.
-pub fn put_digits(n: u64, out: &mut [u8]) -> usize
+fn put_digits(n: u64, out: &mut [u8]) -> usize
     requires { ⌜ length (digits n) ≤ length (now out) ⌝ }
     ensures { λ r. ⌜ Written (digits n) r (now (out .entry)) (now (out .exit)) ⌝ }
 {
@@ -76,7 +76,7 @@ fn put_start(letter: u8, a: u64, end: u8, out: &mut [u8]) -> usize
 }
 
 // A letter and one number.
-pub fn put_line1(letter: u8, a: u64, out: &mut [u8]) -> usize
+fn put_line1(letter: u8, a: u64, out: &mut [u8]) -> usize
     requires { ⌜ length (line letter (a ∷ [])) ≤ length (now out) ⌝ }
     ensures { λ r. ⌜ Written (line letter (a ∷ [])) r (now (out .entry)) (now (out .exit)) ⌝ }
 {
@@ -84,7 +84,7 @@ pub fn put_line1(letter: u8, a: u64, out: &mut [u8]) -> usize
 }
 
 // A letter and two numbers.
-pub fn put_line2(letter: u8, a: u64, b: u64, out: &mut [u8]) -> usize
+fn put_line2(letter: u8, a: u64, b: u64, out: &mut [u8]) -> usize
     requires { ⌜ length (line letter (a ∷ b ∷ [])) ≤ length (now out) ⌝ }
     ensures { λ r. ⌜ Written (line letter (a ∷ b ∷ [])) r (now (out .entry)) (now (out .exit)) ⌝ }
 {

@@ -10,8 +10,8 @@ use rules::refusals::Count;
 use rules::refusals::Refusal;
 use rules::refusals::Verdict;
 
-pub mod clock;
-pub mod turns;
+mod clock;
+mod turns;
 
 fn wide(x: u8) -> usize
     ensures { λ r. ⌜ r ≡ x ⌝ }

@@ -88,7 +88,7 @@ fn first_fault<'a>(parents: &'a [u8; 64], weights: &'a [u16; 64], count: usize) 
 }
 
 // What is wrong with a tree: any count, parents and weights may be handed in.
-pub fn fault(tree: Tree) -> Fault
+pub(crate) fn fault(tree: Tree) -> Fault
     ensures { λ r. ⌜ r ≡ treeFault tree ⌝ }
 {
     let count = tree.count;

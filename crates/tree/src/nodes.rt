@@ -13,7 +13,7 @@ use sets::insert;
 use sets::remove;
 
 // Each node is a leaf until a later one names it as its parent.
-pub fn leaves_in(parents: &[u8; 64], count: usize) -> u64
+pub(crate) fn leaves_in(parents: &[u8; 64], count: usize) -> u64
     requires { ⌜ Climbs (now parents) (count - 1) × (count ≤ 64) ⌝ }
     ensures { λ r. ⌜ ((ws : List ℕ) → r ≡ leavesOf (treeOf count (now (parents .entry)) ws)) ⌝ }
 {
@@ -35,7 +35,7 @@ pub fn leaves(tree: Tree) -> u64
 }
 
 // A parent's number is smaller, so one pass from the last node down finds every node that has an active leaf below it.
-pub fn active_nodes(parents: &[u8; 64], count: usize, active: u64) -> u64
+pub(crate) fn active_nodes(parents: &[u8; 64], count: usize, active: u64) -> u64
     requires { ⌜ Rooted count (now parents) active ⌝ }
     ensures { λ r. ⌜ ActiveNodes count (now (parents .entry)) active r ⌝ }
 {

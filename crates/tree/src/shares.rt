@@ -50,7 +50,7 @@ fn portion(above: u64, weight: u64, sum: u64) -> u64
 }
 
 // The share of an active node, by a call on its parent, whose number is smaller.
-pub fn share_of<'a>(
+fn share_of<'a>(
     parents: &'a [u8; 64],
     weights: &'a [u16; 64],
     count: usize,
@@ -87,7 +87,7 @@ pub fn base_shares(tree: Tree, active: u64) -> [u32; 64]
 }
 
 // With all leaves active, is some leaf's share below the floor?
-pub fn thin(tree: Tree) -> bool
+pub(crate) fn thin(tree: Tree) -> bool
     requires { ⌜ SoundTree tree ⌝ }
     ensures { λ r. ⌜ r ≡ isThin tree ⌝ }
 {
