@@ -1,6 +1,7 @@
 // Where a controller begins, and its pace: start and vrate.
 ghost use mathlib.Core.Path.{_≡_};
 ghost use Prim.Native.Nat.{ℕ};
+ghost use Rattle.rules.specs.Refusals.{verdictNumber, due, startChecks, vrateChecks};
 ghost use Rattle.rules.specs.Entries.{started, startedBy, slowestModel, noTree, vrated as vratedOf};
 ghost use Rattle.rules.specs.Budget.{fresh};
 ghost use Rattle.rules.specs.Plan.{vrateInRange};
@@ -55,6 +56,7 @@ fn refused(x: Refusal) -> Outcome
 // Start: refusals 1, 2 and 3 in that order, else the fresh state.
 pub fn start(tree: Tree, rates: Rates, time: u64) -> Outcome
     ensures { λ r. ⌜ r ≡ started tree rates time ⌝ }
+    ensures number { λ r. ⌜ verdictNumber (r .answer) ≡ due (startChecks tree rates) ⌝ }
 {
     match tree::check(tree) {
         Verdict::Refused(x) => refused(x),
@@ -80,6 +82,7 @@ fn in_range(v: u16) -> bool
 // "vrate is set ..": refusal 15, or it holds for later ticks.
 pub fn vrate(mut c: Controller, v: u16) -> Outcome
     ensures { λ r. ⌜ r ≡ vratedOf v c ⌝ }
+    ensures number { λ r. ⌜ verdictNumber (r .answer) ≡ due (vrateChecks v) ⌝ }
 {
     if in_range(v) {
         let mut clock = c.clock;

@@ -1,10 +1,12 @@
 // From a bio to its cost, or refusals 5 and 6.
 ghost use mathlib.Core.Path.{_≡_};
 ghost use mathlib.Core.Bool.{cond};
+ghost use mathlib.Core.List.{[], _∷_};
 ghost use Prim.Native.Nat.{_^_, _≤_};
 ghost use Rattle.rules.specs.Numbers.{pageBytes};
 ghost use Rattle.rules.specs.Units.{abs, CEIL};
-ghost use Rattle.rules.specs.Cost.{bioInRange, isWrite, isForced, isNear, isSequential, endOf, costAt};
+ghost use Rattle.rules.specs.Cost.{bioInRange, isWrite, isForced, isNear, isSequential, endOf, costAt, costOf};
+ghost use Rattle.rules.specs.Refusals.{costingPaper, paperOf, costChecks};
 ghost use Rattle.rules.specs.Entries.{costing};
 ghost use Rattle.rules.specs.Laws.Costs.{SoundPrice, SoundModel};
 use crate::PAGE_BYTES;
@@ -119,6 +121,7 @@ fn cost_at(price: Price, sequential: bool, bytes: u32) -> Abs
 pub fn cost_of(model: Model, row: Row, bio: Bio) -> Costing
     requires { ⌜ SoundModel model ⌝ }
     ensures { λ r. ⌜ r ≡ costing model row bio ⌝ }
+    ensures paper { λ r. ⌜ costingPaper r ≡ paperOf (costChecks model row bio) (costOf model row bio .0 ∷ []) ⌝ }
 {
     if in_range(bio) {
         let price = price_for(model, bio);

@@ -3,7 +3,8 @@ ghost use mathlib.Core.Path.{_≡_};
 ghost use Prim.Native.Nat.{_-_, _^_, _≤_, _<_};
 ghost use Rattle.rules.specs.Numbers.{second};
 ghost use Rattle.rules.specs.Units.{abs, CEIL};
-ghost use Rattle.rules.specs.Cost.{bpsInRange, iopsInRange, ratesInRange, pageCost, priceOf};
+ghost use Rattle.rules.specs.Cost.{bpsInRange, iopsInRange, ratesInRange, pageCost, priceOf, priced};
+ghost use Rattle.rules.specs.Refusals.{pricingPaper, paperOf, rateChecks, modelValues};
 ghost use Rattle.rules.specs.Entries.{pricing};
 use crate::PAGE_BYTES;
 use rules::cost::Model;
@@ -86,6 +87,7 @@ fn price_of(bps: u64, seqiops: u64, randiops: u64) -> Price
 // Price a model.
 pub fn price(rates: Rates) -> Pricing
     ensures { λ r. ⌜ r ≡ pricing rates ⌝ }
+    ensures paper { λ r. ⌜ pricingPaper r ≡ paperOf (rateChecks rates) (modelValues (priced rates)) ⌝ }
 {
     if rates_in_range(rates) {
         let read = price_of(rates.rbps, rates.rseqiops, rates.rrandiops);

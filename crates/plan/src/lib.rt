@@ -10,6 +10,7 @@ ghost use Rattle.rules.specs.Words.{sumTo, table, has as member, setTo, setOf};
 ghost use Rattle.rules.specs.Units.{abs};
 ghost use Rattle.rules.specs.Budget.{emptyRow};
 ghost use Rattle.rules.specs.Plan.{isQuiet, forgiven as forgivenOf, rested, restarted, targetOf, closed as closedOf, shared as sharedOf};
+ghost use Rattle.rules.specs.Refusals.{verdictNumber, due, planChecks};
 ghost use Rattle.rules.specs.Entries.{planned};
 ghost use Rattle.rules.specs.Invariant.{Sound};
 ghost use Rattle.leaf.specs.Alone.{staysWith, isDonorWith};
@@ -195,6 +196,7 @@ fn shared(
 pub fn plan(c: Controller) -> Outcome
     requires { ⌜ Sound c ⌝ }
     ensures { λ r. ⌜ r ≡ planned c ⌝ }
+    ensures number { λ r. ⌜ verdictNumber (r .answer) ≡ due (planChecks c) ⌝ }
 {
     let clock = c.clock;
     let since = clock.since;

@@ -5,8 +5,8 @@ ghost use mathlib.Core.Path.{_≡_};
 ghost use Prim.Native.Nat.{_≤_};
 ghost use Rattle.rules.specs.Numbers.{costMost, debtMost};
 ghost use Rattle.rules.specs.Words.{has as member};
-ghost use Rattle.rules.specs.Budget.{endsDonation};
-ghost use Rattle.rules.specs.Refusals.{firstOf, roomChecks};
+ghost use Rattle.rules.specs.Budget.{endsDonation, wouldBe};
+ghost use Rattle.rules.specs.Refusals.{firstOf, roomChecks, answerPaper, answerValues, paperOf, submitChecks};
 ghost use Rattle.rules.specs.Entries.{submitted};
 ghost use Rattle.rules.specs.Invariant.{Sound};
 ghost use Rattle.leaf.specs.Alone.{counted};
@@ -126,6 +126,7 @@ fn on_leaf(bio: Bio, cost: Abs, share: u64, row: Row, queue: Queue) -> Judged
 pub fn submit(mut c: Controller, bio: Bio) -> Submitted
     requires { ⌜ Sound c ⌝ }
     ensures { λ r. ⌜ r ≡ submitted bio c ⌝ }
+    ensures paper { λ r. ⌜ answerPaper (r .answer) ≡ paperOf (submitChecks bio c) (answerValues (wouldBe c bio)) ⌝ }
 {
     let node = node_of(bio);
     let mut answer = Answer::Refused(Refusal::NoLeaf);

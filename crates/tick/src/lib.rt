@@ -2,6 +2,10 @@
 // decide 13. Then each active leaf has its turn, which is the crate leaf's, and writes its released ids behind those of
 // the leaves before it, into the rest of the lent buffer.
 ghost use mathlib.Core.Path.{_≡_};
+ghost use mathlib.Core.List.{[], _∷_};
+ghost use lib.ListN.{length};
+ghost use Rattle.rules.specs.Tick.{growth, releases};
+ghost use Rattle.rules.specs.Refusals.{countPaper, paperOf, tickChecks};
 ghost use Rattle.rules.specs.Entries.{ticked, lentOf};
 ghost use Rattle.rules.specs.Invariant.{Sound};
 use rules::budget::Controller;
@@ -24,6 +28,7 @@ fn wide(x: u8) -> usize
 pub fn tick(c: Controller, time: u64, out: &mut [u32]) -> Ticked
     requires { ⌜ Sound c ⌝ }
     ensures { λ r. ⌜ (r ≡ ticked time (now (out .entry)) c) × (now (out .exit) ≡ lentOf time (now (out .entry)) c) ⌝ }
+    ensures paper { λ r. ⌜ countPaper (r .answer) ≡ paperOf (tickChecks time (length (now (out .entry))) c) (length (releases (growth (c .clock) time) c) ∷ []) ⌝ }
 {
     let verdict = clock::verdict(c.clock, time);
     if let Verdict::Refused(refusal) = verdict {

@@ -2,6 +2,7 @@
 // A tree comes in by value; the work is done on its arrays, which are lent, so that no call copies them.
 ghost use mathlib.Core.Path.{_≡_};
 ghost use Prim.Native.Nat.{_<_};
+ghost use Rattle.rules.specs.Refusals.{verdictNumber, due, treeChecks};
 ghost use Rattle.rules.specs.Entries.{treeVerdict};
 use rules::refusals::Refusal;
 use rules::refusals::Verdict;
@@ -26,6 +27,7 @@ fn heavy(weight: u16) -> u64
 // Check a tree: refusal 1 names what is wrong, and 2 is for one that is thin.
 pub fn check(tree: Tree) -> Verdict
     ensures { λ r. ⌜ r ≡ treeVerdict tree ⌝ }
+    ensures number { λ r. ⌜ verdictNumber r ≡ due (treeChecks tree) ⌝ }
 {
     let found = faults::fault(tree);
     if faults::broken(found) {

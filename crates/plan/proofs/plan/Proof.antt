@@ -10,12 +10,17 @@ use Rattle.rules.specs.Units.{abs}
 use Rattle.rules.specs.Budget.{rowAt, queueAt, emptyQueue}
 use Rattle.rules.specs.Plan.{quietIn, activeAfter, donorsIn}
 use Rattle.rules.specs.Laws.Tables.{getD-inside}
+use Rattle.rules.specs.Laws.Refusals.{plan-on-paper}
 use Rattle.rules.specs.Laws.Sweeps.{swept, place-put, places-done}
 use Rattle.rules.specs.declared.budget.Queue.{Queue}
 use Rattle.leaf.specs.Alone.{counted}
 use Rattle.plan.proofs.Steps.{Usages, Waiting, used-little, quiet-by-usages, active-by-waiting, targets-by-usages, donors-by-waiting, still-within, ready, refused, accepted}
 use Rattle.plan.proofs.plan.Statement.{statement}
 use Rattle.plan.proofs.plan.Tie as tie
+
+-- what is promised, and what that says on paper
+both : {A B : Type 0} → A → (A → B) → A × B
+both a f = (a, f a)
 
 abbrev Inv-loop : tie.InvT-loop
 Inv-loop c since rows usages₀ waiting₀ n₀ usages waiting n =
@@ -42,7 +47,7 @@ waiting-read c =
     places-done (λ k. queueAt (start c .args .t1) k .len) (replicate 64 0) _ (at .loop .n) refl (at .loop .inv .1) (search needs)
 
 returns : tie.Need-returns Inv-loop μ-loop
-returns c = refused (c .before .before .before .before .args .t1) (c .if1 .taken)
+returns c = both (refused (c .before .before .before .before .args .t1) (c .if1 .taken)) (plan-on-paper _)
 
 loop-holds : tie.Need-loop-holds Inv-loop μ-loop
 loop-holds c = search needs
@@ -145,9 +150,11 @@ returns-2 c =
     let judged = closing .before .before .before .before .before .before .before in
     let read = judged .before .before .before in
     let s = start read .args .t1 in
-    accepted s (quiet-is (judged .before)) (active-is judged) (closing .before .before .before .before .before .base-shares .ensures)
+    both
+    (accepted s (quiet-is (judged .before)) (active-is judged) (closing .before .before .before .before .before .base-shares .ensures)
     (targets-by-usages s (usages-read read) (closing .before .before .before .before .targets-in .ensures)) (donors-are (closing .before)) (closing .closed .ensures) (c .shared .ensures)
-    (passed read)
+    (passed read))
+    (plan-on-paper s)
 
 pub plan-spec : {M : Type 1} → statement M
 plan-spec =

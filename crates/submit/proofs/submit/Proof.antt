@@ -14,10 +14,15 @@ use Rattle.rules.specs.Entries.{costing}
 use Rattle.rules.specs.declared.units.Abs.{Abs}
 use Rattle.rules.specs.declared.refusals.Costing.the-variants.{Costs}
 use Rattle.rules.specs.Laws.Decisions.{entered-active}
+use Rattle.rules.specs.Laws.Refusals.{submit-on-paper}
 use Rattle.submit.proofs.Shapes.{at-node, leaf-node, leaf-found, found, model-is-sound}
 use Rattle.submit.proofs.Shapes.{wakes, woken-within, Ready, ready-there, can-judge, can-rebase, ends, goes-on, submits, unfit, no-leaf}
 use Rattle.submit.proofs.submit.Statement.{statement}
 use Rattle.submit.proofs.submit.Tie as tie
+
+-- what is promised, and what that says on paper
+both : {A B : Type 0} → A → (A → B) → A × B
+both a f = (a, f a)
 
 -- ---- where a leaf was found
 abbrev start : tie.Then1 → tie.Start
@@ -45,7 +50,7 @@ cost-at c = c .costing .given .0 .0
 has-cost : (c : tie.After-costing) → let s = start (found-at c) .args in costing (s .t1 .model) (rowAt (s .t1) (s .bio .node)) (s .bio) ≡ Costs (cost-at c)
 has-cost c =
     let s = start (found-at c) .args in
-    found (s .bio) (s .t1) (node-is (found-at c)) (c .before .before .cost-of .ensures) (c .costing .given .1)
+    found (s .bio) (s .t1) (node-is (found-at c)) (c .before .before .cost-of .ensures .0) (c .costing .given .1)
 
 -- ---- where the leaf is active
 abbrev costed : tie.Joined2 → tie.After-costing
@@ -156,31 +161,39 @@ returns : tie.Need-returns
 returns c =
     let judging = c .before .before .before .before .before .before in
     let j = joined judging in
-    submits (start (leaf-at j) .pre) _ (is-leaf (leaf-at j)) _ (has-cost (costed j)) (node-is (leaf-at j)) (is-entered j)
+    both
+    (submits (start (leaf-at j) .pre) _ (is-leaf (leaf-at j)) _ (has-cost (costed j)) (node-is (leaf-at j)) (is-entered j)
     (judging .before .wide .ensures) (judging .on-leaf .ensures)
     (ends (j .if2 .c) (node (leaf-at j)) (judging .on-leaf .result) (c .before .before .before .ends-donation .ensures)
-    (c .before .before .has2 .ensures) (c .before .if3 .taken) (c .rebased2 .ensures))
+    (c .before .before .has2 .ensures) (c .before .if3 .taken) (c .rebased2 .ensures)))
+    (submit-on-paper _ _)
 
 returns-2 : tie.Need-returns-2
 returns-2 c =
     let judging = c .before .before .before .before .before in
     let j = joined judging in
-    submits (start (leaf-at j) .pre) _ (is-leaf (leaf-at j)) _ (has-cost (costed j)) (node-is (leaf-at j)) (is-entered j)
+    both
+    (submits (start (leaf-at j) .pre) _ (is-leaf (leaf-at j)) _ (has-cost (costed j)) (node-is (leaf-at j)) (is-entered j)
     (judging .before .wide .ensures) (judging .on-leaf .ensures)
     (goes-on (j .if2 .c) (node (leaf-at j)) (judging .on-leaf .result) (c .before .before .ends-donation .ensures)
-    (c .before .has2 .ensures) (c .if3 .left))
+    (c .before .has2 .ensures) (c .if3 .left)))
+    (submit-on-paper _ _)
 
 returns-3 : tie.Need-returns-3
 returns-3 c =
     let leaf = c .before .before .before .before .before .before in
     let s = start leaf in
-    unfit (s .pre) _ (is-leaf leaf) _
-    (found (s .args .bio) (s .args .t1) (node-is leaf) (c .before .before .before .cost-of .ensures) (c .before .costing2 .given .1))
+    both
+    (unfit (s .pre) _ (is-leaf leaf) _
+    (found (s .args .bio) (s .args .t1) (node-is leaf) (c .before .before .before .cost-of .ensures .0) (c .before .costing2 .given .1)))
+    (submit-on-paper _ _)
 
 returns-4 : tie.Need-returns-4
 returns-4 c =
     let s = c .before .before .before in
-    no-leaf (s .pre) _ (leaf-found (s .args .bio) (s .pre) (c .before .before .node-of .ensures) (c .before .holds .ensures) (c .if1 .left))
+    both
+    (no-leaf (s .pre) _ (leaf-found (s .args .bio) (s .pre) (c .before .before .node-of .ensures) (c .before .holds .ensures) (c .if1 .left)))
+    (submit-on-paper _ _)
 
 pub submit-spec : {M : Type 1} → statement M
 submit-spec =

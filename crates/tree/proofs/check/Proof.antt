@@ -11,6 +11,7 @@ use Rattle.rules.specs.declared.tree.Fault.{Fault}
 use Rattle.rules.specs.declared.refusals.Refusal.the-variants.{BadTree}
 use Rattle.rules.specs.declared.refusals.Verdict.the-variants.{Refused}
 use Rattle.rules.specs.Laws.Trees.{SoundTree, sound-tree}
+use Rattle.rules.specs.Laws.Refusals.{check-on-paper}
 use Rattle.rules.specs.Laws.TreeVerdicts.{sound-when, bad-tree, thin-tree, fine-tree}
 use Rattle.tree.proofs.check.Statement.{statement}
 use Rattle.tree.proofs.check.Tie as tie
@@ -26,6 +27,10 @@ module _ (t : Tree) {found : Fault} (e : found ≡ treeFault t) {b : Bool} (i : 
   is-sound : b ≡ false → SoundTree t
   is-sound f = sound-tree t (sound-when (treeFault t) (judged ∙ f))
 
+-- what is promised, and what that says on paper
+both : {A B : Type 0} → A → (A → B) → A × B
+both a f = (a, f a)
+
 fault-requires : tie.Need-fault-requires
 fault-requires c κs = search needs
 
@@ -33,7 +38,10 @@ broken-requires : tie.Need-broken-requires
 broken-requires c κs = search needs
 
 returns : tie.Need-returns
-returns c = is-bad (c .before .before .before .args .tree) (c .before .before .fault .ensures) (c .before .broken .ensures) (c .if1 .taken)
+returns c =
+    both
+    (is-bad (c .before .before .before .args .tree) (c .before .before .fault .ensures) (c .before .broken .ensures) (c .if1 .taken))
+    (check-on-paper _)
 
 thin-requires : tie.Need-thin-requires
 thin-requires c κs = is-sound (c .before .before .before .args .tree) (c .before .before .fault .ensures) (c .before .broken .ensures) (c .if1 .left)
@@ -42,15 +50,17 @@ returns-2 : tie.Need-returns-2
 returns-2 c =
     let f = c .before .before in
     let t = f .before .before .before .args .tree in
-    sym
-    (thin-tree t (judged t (f .before .before .fault .ensures) (f .before .broken .ensures) ∙ f .if1 .left) (sym (c .before .thin .ensures) ∙ c .if2 .taken))
+    both
+    (sym (thin-tree t (judged t (f .before .before .fault .ensures) (f .before .broken .ensures) ∙ f .if1 .left) (sym (c .before .thin .ensures) ∙ c .if2 .taken)))
+    (check-on-paper t)
 
 returns-3 : tie.Need-returns-3
 returns-3 c =
     let f = c .before .before in
     let t = f .before .before .before .args .tree in
-    sym
-    (fine-tree t (judged t (f .before .before .fault .ensures) (f .before .broken .ensures) ∙ f .if1 .left) (sym (c .before .thin .ensures) ∙ c .if2 .left))
+    both
+    (sym (fine-tree t (judged t (f .before .before .fault .ensures) (f .before .broken .ensures) ∙ f .if1 .left) (sym (c .before .thin .ensures) ∙ c .if2 .left)))
+    (check-on-paper t)
 
 pub check-spec : {M : Type 1} → statement M
 check-spec = tie.close (tie.spec fault-requires broken-requires returns thin-requires returns-2 returns-3)

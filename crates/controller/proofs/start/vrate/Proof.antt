@@ -6,19 +6,24 @@ use mathlib.Core.Bool.{true, false}
 use Rattle.rules.specs.Plan.{vrateInRange}
 use Rattle.rules.specs.Refusals.{vrateChecks}
 use Rattle.rules.specs.Entries.{vrated, vratedBy}
+use Rattle.rules.specs.Laws.Refusals.{vrate-on-paper}
 use Rattle.controller.proofs.start.vrate.Statement.{statement}
 use Rattle.controller.proofs.start.vrate.Tie as tie
+
+-- what is promised, and what that says on paper
+both : {A B : Type 0} → A → (A → B) → A × B
+both a f = (a, f a)
 
 in-range-requires : tie.Need-in-range-requires
 in-range-requires c κs = search needs
 
 returns : tie.Need-returns
 unfolding vrated vratedBy vrateChecks
-returns c = let e : vrateInRange (c .before .before .before .args .v) ≡ true = sym (c .before .before .in-range .ensures) ∙ c .before .if1 .taken in rw e
+returns c = let e : vrateInRange (c .before .before .before .args .v) ≡ true = sym (c .before .before .in-range .ensures) ∙ c .before .if1 .taken in both (rw e) (vrate-on-paper _ _)
 
 returns-2 : tie.Need-returns-2
 unfolding vrated vratedBy vrateChecks
-returns-2 c = let e : vrateInRange (c .before .before .args .v) ≡ false = sym (c .before .in-range .ensures) ∙ c .if1 .left in rw e
+returns-2 c = let e : vrateInRange (c .before .before .args .v) ≡ false = sym (c .before .in-range .ensures) ∙ c .if1 .left in both (rw e) (vrate-on-paper _ _)
 
 pub vrate-spec : {M : Type 1} → statement M
 vrate-spec = tie.close (tie.spec in-range-requires returns returns-2)

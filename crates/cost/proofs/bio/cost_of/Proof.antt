@@ -9,6 +9,7 @@ use Rattle.rules.specs.Numbers.{costMost}
 use Rattle.rules.specs.Entries.{costing}
 use Rattle.rules.specs.Laws.Bools.{exactly-not}
 use Rattle.rules.specs.Laws.Costs.{price-of-bio-sound, bio-in-range, costing-refuses-the-range-exactly-when, costing-refuses-the-cost-exactly-when, costing-costs-exactly-when}
+use Rattle.rules.specs.Laws.Refusals.{cost-on-paper}
 use Rattle.rules.specs.declared.units.Abs.{Abs}
 use Rattle.rules.specs.declared.cost.Price.{Price}
 use Rattle.rules.specs.declared.cost.Model.{Model}
@@ -35,6 +36,10 @@ module _ (m : Model) (row : Row) (b : Bio) where
   bad : bioInRange b ≡ false → Refused BadBio ≡ costing m row b
   bad f = sym (costing-refuses-the-range-exactly-when m row b .1 (exactly-not _ (bio-in-range b) .0 f))
 
+-- what is promised, and what that says on paper
+both : {A B : Type 0} → A → (A → B) → A × B
+both a f = (a, f a)
+
 in-range-requires : tie.Need-in-range-requires
 in-range-requires c κs = search needs
 
@@ -52,20 +57,24 @@ cost-at-requires c κs = (
 
 returns : tie.Need-returns
 returns c =
-    affordable _ _ _ _
+    both
+    (affordable _ _ _ _
     (sym (c .before .before .before .before .before .before .in-range .ensures) ∙ c .before .before .before .before .before .if1 .taken)
     (found _ _ _ _ _ _ (c .before .before .before .before .price-for .ensures) (c .before .before .before .is-sequential .ensures) (c .before .before .cost-at .ensures))
-    (c .if2 .taken)
+    (c .if2 .taken))
+    (cost-on-paper _ _ _)
 
 returns-2 : tie.Need-returns-2
 returns-2 c =
-    dear _ _ _ _
+    both
+    (dear _ _ _ _
     (sym (c .before .before .before .before .before .before .in-range .ensures) ∙ c .before .before .before .before .before .if1 .taken)
     (found _ _ _ _ _ _ (c .before .before .before .before .price-for .ensures) (c .before .before .before .is-sequential .ensures) (c .before .before .cost-at .ensures))
-    (c .if2 .left)
+    (c .if2 .left))
+    (cost-on-paper _ _ _)
 
 returns-3 : tie.Need-returns-3
-returns-3 c = bad _ _ _ (sym (c .before .in-range .ensures) ∙ c .if1 .left)
+returns-3 c = both (bad _ _ _ (sym (c .before .in-range .ensures) ∙ c .if1 .left)) (cost-on-paper _ _ _)
 
 pub cost-of-spec : {M : Type 1} → statement M
 cost-of-spec =

@@ -6,8 +6,13 @@ use Rattle.rules.specs.Cost.{priced}
 use Rattle.rules.specs.Refusals.{rateChecks}
 use Rattle.rules.specs.Entries.{pricing, pricingBy}
 use Rattle.rules.specs.Laws.Costs.{rates-in-range}
+use Rattle.rules.specs.Laws.Refusals.{price-on-paper}
 use Rattle.cost.proofs.pricing.price.Statement.{statement}
 use Rattle.cost.proofs.pricing.price.Tie as tie
+
+-- what is promised, and what that says on paper
+both : {A B : Type 0} → A → (A → B) → A × B
+both a f = (a, f a)
 
 rates-in-range-requires : tie.Need-rates-in-range-requires
 rates-in-range-requires c κs = search needs
@@ -26,11 +31,11 @@ returns : tie.Need-returns
 unfolding pricing rateChecks pricingBy priced
 returns c =
     let e = sym (c .before .before .before .rates-in-range .ensures) ∙ c .before .before .if1 .taken in
-    rw (e, c .before .price-of .ensures, c .price-of2 .ensures)
+    both (rw (e, c .before .price-of .ensures, c .price-of2 .ensures)) (price-on-paper _)
 
 returns-2 : tie.Need-returns-2
 unfolding pricing rateChecks pricingBy
-returns-2 c = rw (sym (c .before .rates-in-range .ensures) ∙ c .if1 .left)
+returns-2 c = both (rw (sym (c .before .rates-in-range .ensures) ∙ c .if1 .left)) (price-on-paper _)
 
 pub price-spec : {M : Type 1} → statement M
 price-spec =
