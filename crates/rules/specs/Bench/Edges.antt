@@ -11,7 +11,7 @@ use Rattle.rules.specs.Words.{tableFrom, has, noNode}
 use Rattle.rules.specs.Units.{abs, virt}
 use Rattle.rules.specs.Cost.{bpsInRange, iopsInRange, bytesInRange, sectorInRange, flagsInRange, isNear, priced}
 use Rattle.rules.specs.Tree.{countInRange, weightInRange, treeFault, newestFault, leavesOf, baseShares}
-use Rattle.rules.specs.Budget.{emptyQueue, emptyRow, fresh, rowAt, queueAt, shareAt, withClock, withSharing, withBooks, putLeaf, reshared}
+use Rattle.rules.specs.Budget.{emptyQueue, emptyRow, fresh, rowAt, queueAt, shareAt, withClock, withSharing, withBooks, putLeaf, reshared, withBudget, withDebt, withUsage}
 use Rattle.rules.specs.Tick.{growth, capped, turn, releases, waitingAll}
 use Rattle.rules.specs.Plan.{usageAll, isQuiet, targetOf, isDonor, sumOver, quietIn, vrateInRange}
 use Rattle.rules.specs.Refusals.{Check, firstOf, isFault, verdictNumber, readNumber, writeNumber, modelValues, costChecks, roomChecks, tickChecks, planChecks}
@@ -273,6 +273,10 @@ books =
     see (topNumbers (started runTree (ratesM 50000) 1000 .state) ++ leafNumbers (started runTree (ratesM 50000) 1000 .state) 1)
     (1000 ∷ 0 ∷ 0 ∷ 100 ∷ 6 ∷ 0 ∷ 0 ∷ replicate 9 0)
     ∷ see (queueNumbers (queueAt (started runTree (ratesM 50000) 1000 .state) 2)) (replicate 18 0)
+    -- a part of a row is set, and the others stay
+    ∷ see (rowNumbers (withBudget (virt 9) (row 1 2 3 4 true false)) ++ rowNumbers (withDebt (abs 9) (row 1 2 3 4 false true)))
+    (9 ∷ 2 ∷ 3 ∷ 4 ∷ 1 ∷ 0 ∷ 1 ∷ 9 ∷ 3 ∷ 4 ∷ 0 ∷ 1 ∷ [])
+    ∷ see (rowNumbers (withUsage (abs 9) (row 1 2 3 4 true false))) (1 ∷ 2 ∷ 9 ∷ 4 ∷ 1 ∷ 0 ∷ [])
     -- vrate alone is set
     ∷ see (bookNumbers (vrated 300 saved6 .state)) (1000 ∷ 70000 ∷ 50000 ∷ 300 ∷ 14 ∷ 6 ∷ 4 ∷ leaf1 ++ leaf2 ++ leaf3)
     -- a taker's bio is issued, 20,000 at its share; waits; goes on debt: the donation stands, and no other leaf is touched
