@@ -46,10 +46,10 @@ pub record Replayed (s : Standing) (chunk out₀ out : List ℕ) (f : Fed) : Typ
 
 -- what they leave waits at the front, and the writes took so many bytes
 pub record Carried (f : Fed) (taken : ℕ) (s : Standing) (chunk : List ℕ) (r : Standing) (after : List ℕ) : Type 0 where
+  pub same : r .replay ≡ f .replay
   pub stands : Stands r (length after)
   pub put : r .put ≡ taken
   pub goes : r .going ≡ true
-  pub same : r .replay ≡ f .replay
   pub left : waiting r after ≡ drop (f .place) (waiting s chunk)
 
 -- the replay stays, more bytes may come behind those that wait, and the run ends well only where the pause is the end
