@@ -131,7 +131,7 @@ loop-again c =
     let done = put .before .before in
     let asked = done .before .before in
     again-at (asked .before .before) _ (asked .call .given .1) (bio-is-call _) _
-    (bio-answered _ _ _ _ (done .submit .ensures) (put .put-answer .ensures)) (put .put-answer .kept .1 .1 .0)
+    (bio-answered _ _ _ _ (done .submit .ensures .0) (put .put-answer .ensures)) (put .put-answer .kept .1 .1 .0)
 
 -- ---- a tick
 enum-known-call-2 : tie.Need-enum-known-call-2 Inv-loop μ-loop
@@ -158,7 +158,7 @@ part-put-ticked-end c = search needs
 put-ticked-requires : tie.Need-put-ticked-requires Inv-loop μ-loop
 put-ticked-requires c κs =
     let t = c .before .before .before .before .before .before .before .before in
-    (can-print (head t .loop .inv .sound) _ (c .before .before .before .tick .ensures .0) (search needs), room-at t _ (omega arith))
+    (can-print (head t .loop .inv .sound) _ (c .before .before .before .tick .ensures .0 .0) (search needs), room-at t _ (omega arith))
 
 add-count-2 : tie.Need-add-count-2 Inv-loop μ-loop
 add-count-2 c =
@@ -174,7 +174,7 @@ loop-again-2 c =
     let done = put .before .before .before .before in
     let asked = done .before .before .before in
     again-at (asked .before .before) _ (asked .call2 .given .1) (tick-is-call _) _
-    (tick-answered _ _ _ _ (done .tick .ensures .0) (done .tick .ensures .1) (put .put-ticked .ensures)) (put .put-ticked .kept .1 .1 .0)
+    (tick-answered _ _ _ _ (done .tick .ensures .0 .0) (done .tick .ensures .0 .1) (put .put-ticked .ensures)) (put .put-ticked .kept .1 .1 .0)
 
 -- ---- a plan
 enum-told-2 : tie.Need-enum-told-2 Inv-loop μ-loop
@@ -209,7 +209,7 @@ loop-again-3 c =
     let done = put .before .before .before .before .before in
     let asked = done .before in
     again-at (asked .before .before) _ (asked .enum-told2 .given .1) plan-is-call _
-    (plan-answered _ _ _ (done .plan .ensures) (put .put-planned .ensures)) (put .put-planned .kept .1 .1 .1 .0)
+    (plan-answered _ _ _ (done .plan .ensures .0) (put .put-planned .ensures)) (put .put-planned .kept .1 .1 .1 .0)
 
 -- ---- a vrate
 enum-known-call-3 : tie.Need-enum-known-call-3 Inv-loop μ-loop
@@ -244,7 +244,7 @@ loop-again-4 c =
     let done = put .before .before in
     let asked = done .before .before in
     again-at (asked .before .before) _ (asked .call3 .given .1) (vrate-is-call _) _
-    (vrate-answered _ _ _ _ (done .vrate .ensures) (put .put-verdict .ensures)) (put .put-verdict .kept .1 .0)
+    (vrate-answered _ _ _ _ (done .vrate .ensures .0) (put .put-verdict .ensures)) (put .put-verdict .kept .1 .0)
 
 -- ---- the loop is left
 same-length-2 : tie.Need-same-length-2 Inv-loop μ-loop

@@ -12,7 +12,7 @@ started-requires : tie.Need-started-requires
 started-requires c κs = search needs
 
 returns : tie.Need-returns
-returns c = rw (c .before .before .start .ensures) (start-gives _ _ _)
+returns c = rw (c .before .before .start .ensures .0) (start-gives _ _ _)
 
 pub start-spec : {M : Type 1} → statement M
 start-spec = tie.close (tie.spec start-requires started-requires returns)

@@ -12,7 +12,7 @@ submitted-requires : tie.Need-submitted-requires
 submitted-requires c κs = search needs
 
 returns : tie.Need-returns
-returns c = rw (c .before .before .submit .ensures) (submit-keeps (c .before .before .before .before .pre) _)
+returns c = rw (c .before .before .submit .ensures .0) (submit-keeps (c .before .before .before .before .pre) _)
 
 pub submit-spec : {M : Type 1} → statement M
 submit-spec = tie.close (tie.spec submit-requires submitted-requires returns)

@@ -17,7 +17,7 @@ same-length c = search needs
 returns : tie.Need-returns
 returns c =
     let ticked = c .before .before .before .before .before .before in
-    rw (ticked .tick .ensures .0) (ticked-keeps (ticked .before .before .before .before .pre) _ _)
+    rw (ticked .tick .ensures .0 .0) (ticked-keeps (ticked .before .before .before .before .pre) _ _)
 
 pub tick-spec : {M : Type 1} → statement M
 tick-spec = tie.close (tie.spec tick-requires ticked-requires same-length returns)

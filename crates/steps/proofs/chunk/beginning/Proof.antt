@@ -28,7 +28,7 @@ start-requires : tie.Need-start-requires
 start-requires c κs = tt
 
 returns : tie.Need-returns
-returns c = begins (c .before .start .result) (c .before .start .ensures)
+returns c = begins (c .before .start .result) (c .before .start .ensures .0)
 
 pub beginning-spec : {M : Type 1} → statement M
 beginning-spec = tie.close (tie.spec start-requires returns)

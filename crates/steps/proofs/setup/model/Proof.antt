@@ -26,7 +26,7 @@ returns c =
     let priced = c .before .before .before .before .before .before .before in
     let start = priced .before .before in
     same-step (now (start .args .out))
-    (model-refused (start .args .rates) (start .args .s) (priced .price .ensures)
+    (model-refused (start .args .rates) (start .args .s) (priced .price .ensures .0)
     (c .before .before .before .before .before .x .given .1))
     (c .before .before .stopped .ensures)
 
@@ -35,7 +35,7 @@ returns-2 c =
     let priced = c .before .before .before .before in
     let start = priced .before .before in
     no-bytes
-    (model-accepted (start .args .rates) (start .args .s) (priced .price .ensures) (c .before .before .enum-told .given .1))
+    (model-accepted (start .args .rates) (start .args .s) (priced .price .ensures .0) (c .before .before .enum-told .given .1))
 
 pub model-spec : {M : Type 1} → statement M
 model-spec =

@@ -26,7 +26,7 @@ returns c =
     let begun = c .before .before .before .before .before .before .before in
     let start = begun .before .before .before .before in
     same-step (now (start .args .out))
-    (start-refused (start .args .time) (start .args .s) (begun .start .ensures)
+    (start-refused (start .args .time) (start .args .s) (begun .start .ensures .0)
     (c .before .before .before .before .before .answer .given .1))
     (c .before .before .stopped .ensures)
 
@@ -34,7 +34,7 @@ returns-2 : tie.Need-returns-2
 returns-2 c =
     let begun = c .before .before .before in
     let start = begun .before .before .before .before in
-    no-bytes (start-accepted (start .args .time) (start .args .s) (begun .start .ensures) (c .before .enum-told .given .1))
+    no-bytes (start-accepted (start .args .time) (start .args .s) (begun .start .ensures .0) (c .before .enum-told .given .1))
 
 pub start-spec : {M : Type 1} → statement M
 start-spec =
