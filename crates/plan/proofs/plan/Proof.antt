@@ -18,10 +18,6 @@ use Rattle.plan.proofs.Steps.{Usages, Waiting, used-little, quiet-by-us
 use Rattle.plan.proofs.plan.Statement.{statement}
 use Rattle.plan.proofs.plan.Tie as tie
 
--- what is promised, and what that says on paper
-both : {A B : Type 0} → A → (A → B) → A × B
-both a f = (a, f a)
-
 abbrev Inv-loop : tie.InvT-loop
 Inv-loop c since rows usages₀ waiting₀ n₀ usages waiting n =
     (usages ≡ swept (table (λ k. rowAt c k .usage)) usages₀ n) × (waiting ≡ swept (table (λ k. queueAt c k .len)) waiting₀ n) × (n ≤ 64)
@@ -47,7 +43,7 @@ waiting-read c =
     places-done (λ k. queueAt (start c .args .t1) k .len) (replicate 64 0) _ (at .loop .n) refl (at .loop .inv .1) (search needs)
 
 returns : tie.Need-returns Inv-loop μ-loop
-returns c = both (refused (c .before .before .before .before .args .t1) (c .if1 .taken)) (plan-on-paper _)
+returns c = let e = refused (c .before .before .before .before .args .t1) (c .if1 .taken) in (e, plan-on-paper _ e)
 
 loop-holds : tie.Need-loop-holds Inv-loop μ-loop
 loop-holds c = search needs
@@ -150,11 +146,11 @@ returns-2 c =
     let judged = closing .before .before .before .before .before .before .before in
     let read = judged .before .before .before in
     let s = start read .args .t1 in
-    both
-    (accepted s (quiet-is (judged .before)) (active-is judged) (closing .before .before .before .before .before .base-shares .ensures)
+    let e =
+    accepted s (quiet-is (judged .before)) (active-is judged) (closing .before .before .before .before .before .base-shares .ensures)
     (targets-by-usages s (usages-read read) (closing .before .before .before .before .targets-in .ensures)) (donors-are (closing .before)) (closing .closed .ensures) (c .shared .ensures)
-    (passed read))
-    (plan-on-paper s)
+    (passed read) in
+    (e, plan-on-paper s e)
 
 pub plan-spec : {M : Type 1} → statement M
 plan-spec =

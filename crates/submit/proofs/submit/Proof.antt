@@ -20,10 +20,6 @@ use Rattle.submit.proofs.Shapes.{wakes, woken-within, Ready, ready-ther
 use Rattle.submit.proofs.submit.Statement.{statement}
 use Rattle.submit.proofs.submit.Tie as tie
 
--- what is promised, and what that says on paper
-both : {A B : Type 0} → A → (A → B) → A × B
-both a f = (a, f a)
-
 -- ---- where a leaf was found
 abbrev start : tie.Then1 → tie.Start
 start c = c .before .before .before
@@ -161,39 +157,39 @@ returns : tie.Need-returns
 returns c =
     let judging = c .before .before .before .before .before .before in
     let j = joined judging in
-    both
-    (submits (start (leaf-at j) .pre) _ (is-leaf (leaf-at j)) _ (has-cost (costed j)) (node-is (leaf-at j)) (is-entered j)
+    let e =
+    submits (start (leaf-at j) .pre) _ (is-leaf (leaf-at j)) _ (has-cost (costed j)) (node-is (leaf-at j)) (is-entered j)
     (judging .before .wide .ensures) (judging .on-leaf .ensures)
     (ends (j .if2 .c) (node (leaf-at j)) (judging .on-leaf .result) (c .before .before .before .ends-donation .ensures)
-    (c .before .before .has2 .ensures) (c .before .if3 .taken) (c .rebased2 .ensures)))
-    (submit-on-paper _ _)
+    (c .before .before .has2 .ensures) (c .before .if3 .taken) (c .rebased2 .ensures)) in
+    (e, submit-on-paper _ _ e)
 
 returns-2 : tie.Need-returns-2
 returns-2 c =
     let judging = c .before .before .before .before .before in
     let j = joined judging in
-    both
-    (submits (start (leaf-at j) .pre) _ (is-leaf (leaf-at j)) _ (has-cost (costed j)) (node-is (leaf-at j)) (is-entered j)
+    let e =
+    submits (start (leaf-at j) .pre) _ (is-leaf (leaf-at j)) _ (has-cost (costed j)) (node-is (leaf-at j)) (is-entered j)
     (judging .before .wide .ensures) (judging .on-leaf .ensures)
     (goes-on (j .if2 .c) (node (leaf-at j)) (judging .on-leaf .result) (c .before .before .ends-donation .ensures)
-    (c .before .has2 .ensures) (c .if3 .left)))
-    (submit-on-paper _ _)
+    (c .before .has2 .ensures) (c .if3 .left)) in
+    (e, submit-on-paper _ _ e)
 
 returns-3 : tie.Need-returns-3
 returns-3 c =
     let leaf = c .before .before .before .before .before .before in
     let s = start leaf in
-    both
-    (unfit (s .pre) _ (is-leaf leaf) _
-    (found (s .args .bio) (s .args .t1) (node-is leaf) (c .before .before .before .cost-of .ensures .0) (c .before .costing2 .given .1)))
-    (submit-on-paper _ _)
+    let e =
+    unfit (s .pre) _ (is-leaf leaf) _
+    (found (s .args .bio) (s .args .t1) (node-is leaf) (c .before .before .before .cost-of .ensures .0) (c .before .costing2 .given .1)) in
+    (e, submit-on-paper _ _ e)
 
 returns-4 : tie.Need-returns-4
 returns-4 c =
     let s = c .before .before .before in
-    both
-    (no-leaf (s .pre) _ (leaf-found (s .args .bio) (s .pre) (c .before .before .node-of .ensures) (c .before .holds .ensures) (c .if1 .left)))
-    (submit-on-paper _ _)
+    let e =
+    no-leaf (s .pre) _ (leaf-found (s .args .bio) (s .pre) (c .before .before .node-of .ensures) (c .before .holds .ensures) (c .if1 .left)) in
+    (e, submit-on-paper _ _ e)
 
 pub submit-spec : {M : Type 1} → statement M
 submit-spec =

@@ -15,10 +15,6 @@ use Rattle.tick.proofs.Answers.{Counted, none-counted, one-counted, cou
 use Rattle.tick.proofs.tick.Statement.{statement}
 use Rattle.tick.proofs.tick.Tie as tie
 
--- what is promised, and what that says on paper
-both : {A B : Type 0} → A → (A → B) → A × B
-both a f = (a, f a)
-
 abbrev Inv-loop : tie.InvT-loop
 Inv-loop time out c waiting₀ n₀ waiting n = Counted c waiting n
 
@@ -35,9 +31,9 @@ returns : tie.Need-returns Inv-loop μ-loop
 returns c =
     let checked = c .before .before .before in
     let a = checked .before .before .before .args in
-    both
-    (refuses (a .time) (now (a .out)) (a .t1) (clock-refuses (a .time) (length (now (a .out))) (a .t1) (checked .verdict .ensures) (c .before .verdict2 .given .1)))
-    (λ w. tick-on-paper _ _ _ (w .0))
+    let e =
+    refuses (a .time) (now (a .out)) (a .t1) (clock-refuses (a .time) (length (now (a .out))) (a .t1) (checked .verdict .ensures) (c .before .verdict2 .given .1)) in
+    (e, tick-on-paper _ _ _ (e .0))
 
 enum-told : tie.Need-enum-told Inv-loop μ-loop
 enum-told c = search needs
@@ -78,11 +74,11 @@ returns-2 c =
     let checked = at .before .before .before in
     let start = checked .before .before .before in
     let a = start .args in
-    both
-    (refuses (a .time) (now (a .out)) (a .t1)
+    let e =
+    refuses (a .time) (now (a .out)) (a .t1)
     (too-few-places (a .time) (length (now (a .out))) (a .t1) (checked .verdict .ensures) (at .before .enum-told .given .1)
-    (all-counted (start .pre) (at .loop .inv) (omega (arith, c .before .loop-test .left))) (omega (arith, c .if1 .taken))))
-    (λ w. tick-on-paper _ _ _ (w .0))
+    (all-counted (start .pre) (at .loop .inv) (omega (arith, c .before .loop-test .left))) (omega (arith, c .if1 .taken))) in
+    (e, tick-on-paper _ _ _ (e .0))
 
 -- the clock's checks and the places were passed
 abbrev start : tie.Else1 Inv-loop μ-loop → tie.Start Inv-loop μ-loop
@@ -104,9 +100,9 @@ same-length c = search needs
 
 returns-3 : tie.Need-returns-3 Inv-loop μ-loop
 returns-3 c =
-    both
-    (accepts _ _ _ (passes (c .before .before .before .before)) (c .before .before .accepted .ensures))
-    (λ w. tick-on-paper _ _ _ (w .0))
+    let e =
+    accepts _ _ _ (passes (c .before .before .before .before)) (c .before .before .accepted .ensures) in
+    (e, tick-on-paper _ _ _ (e .0))
 
 pub tick-spec : {M : Type 1} → statement M
 tick-spec =

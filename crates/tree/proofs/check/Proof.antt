@@ -27,10 +27,6 @@ module _ (t : Tree) {found : Fault} (e : found ≡ treeFault t) {b : Bool} (i : 
   is-sound : b ≡ false → SoundTree t
   is-sound f = sound-tree t (sound-when (treeFault t) (judged ∙ f))
 
--- what is promised, and what that says on paper
-both : {A B : Type 0} → A → (A → B) → A × B
-both a f = (a, f a)
-
 fault-requires : tie.Need-fault-requires
 fault-requires c κs = search needs
 
@@ -39,9 +35,9 @@ broken-requires c κs = search needs
 
 returns : tie.Need-returns
 returns c =
-    both
-    (is-bad (c .before .before .before .args .tree) (c .before .before .fault .ensures) (c .before .broken .ensures) (c .if1 .taken))
-    (check-on-paper _)
+    let e =
+    is-bad (c .before .before .before .args .tree) (c .before .before .fault .ensures) (c .before .broken .ensures) (c .if1 .taken) in
+    (e, check-on-paper _ e)
 
 thin-requires : tie.Need-thin-requires
 thin-requires c κs = is-sound (c .before .before .before .args .tree) (c .before .before .fault .ensures) (c .before .broken .ensures) (c .if1 .left)
@@ -50,17 +46,17 @@ returns-2 : tie.Need-returns-2
 returns-2 c =
     let f = c .before .before in
     let t = f .before .before .before .args .tree in
-    both
-    (sym (thin-tree t (judged t (f .before .before .fault .ensures) (f .before .broken .ensures) ∙ f .if1 .left) (sym (c .before .thin .ensures) ∙ c .if2 .taken)))
-    (check-on-paper t)
+    let e =
+    sym (thin-tree t (judged t (f .before .before .fault .ensures) (f .before .broken .ensures) ∙ f .if1 .left) (sym (c .before .thin .ensures) ∙ c .if2 .taken)) in
+    (e, check-on-paper t e)
 
 returns-3 : tie.Need-returns-3
 returns-3 c =
     let f = c .before .before in
     let t = f .before .before .before .args .tree in
-    both
-    (sym (fine-tree t (judged t (f .before .before .fault .ensures) (f .before .broken .ensures) ∙ f .if1 .left) (sym (c .before .thin .ensures) ∙ c .if2 .left)))
-    (check-on-paper t)
+    let e =
+    sym (fine-tree t (judged t (f .before .before .fault .ensures) (f .before .broken .ensures) ∙ f .if1 .left) (sym (c .before .thin .ensures) ∙ c .if2 .left)) in
+    (e, check-on-paper t e)
 
 pub check-spec : {M : Type 1} → statement M
 check-spec = tie.close (tie.spec fault-requires broken-requires returns thin-requires returns-2 returns-3)

@@ -7,13 +7,9 @@ use Rattle.rules.specs.Laws.Refusals.{start-on-paper}
 use Rattle.rules.specs.Laws.Trees.{sound-tree}
 use Rattle.rules.specs.Laws.TreeVerdicts.{accepted-exactly-when}
 use Rattle.rules.specs.declared.refusals.Verdict.the-variants.{Accepted}
-use Rattle.controller.proofs.Begin.{tree-refuses, rates-refuse, start-accepts}
+use Rattle.controller.proofs.Begin.{both, tree-refuses, rates-refuse, start-accepts}
 use Rattle.controller.proofs.start.start.Statement.{statement}
 use Rattle.controller.proofs.start.start.Tie as tie
-
--- what is promised, and what that says on paper
-both : {A B : Type 0} → A → (A → B) → A × B
-both a f = (a, f a)
 
 check-requires : tie.Need-check-requires
 check-requires c κs = search needs

@@ -7,12 +7,9 @@ use Rattle.rules.specs.Plan.{vrateInRange}
 use Rattle.rules.specs.Refusals.{vrateChecks}
 use Rattle.rules.specs.Entries.{vrated, vratedBy}
 use Rattle.rules.specs.Laws.Refusals.{vrate-on-paper}
+use Rattle.controller.proofs.Begin.{both}
 use Rattle.controller.proofs.start.vrate.Statement.{statement}
 use Rattle.controller.proofs.start.vrate.Tie as tie
-
--- what is promised, and what that says on paper
-both : {A B : Type 0} → A → (A → B) → A × B
-both a f = (a, f a)
 
 in-range-requires : tie.Need-in-range-requires
 in-range-requires c κs = search needs

@@ -36,10 +36,6 @@ module _ (m : Model) (row : Row) (b : Bio) where
   bad : bioInRange b ≡ false → Refused BadBio ≡ costing m row b
   bad f = sym (costing-refuses-the-range-exactly-when m row b .1 (exactly-not _ (bio-in-range b) .0 f))
 
--- what is promised, and what that says on paper
-both : {A B : Type 0} → A → (A → B) → A × B
-both a f = (a, f a)
-
 in-range-requires : tie.Need-in-range-requires
 in-range-requires c κs = search needs
 
@@ -57,24 +53,24 @@ cost-at-requires c κs = (
 
 returns : tie.Need-returns
 returns c =
-    both
-    (affordable _ _ _ _
+    let e =
+    affordable _ _ _ _
     (sym (c .before .before .before .before .before .before .in-range .ensures) ∙ c .before .before .before .before .before .if1 .taken)
     (found _ _ _ _ _ _ (c .before .before .before .before .price-for .ensures) (c .before .before .before .is-sequential .ensures) (c .before .before .cost-at .ensures))
-    (c .if2 .taken))
-    (cost-on-paper _ _ _)
+    (c .if2 .taken) in
+    (e, cost-on-paper _ _ _ e)
 
 returns-2 : tie.Need-returns-2
 returns-2 c =
-    both
-    (dear _ _ _ _
+    let e =
+    dear _ _ _ _
     (sym (c .before .before .before .before .before .before .in-range .ensures) ∙ c .before .before .before .before .before .if1 .taken)
     (found _ _ _ _ _ _ (c .before .before .before .before .price-for .ensures) (c .before .before .before .is-sequential .ensures) (c .before .before .cost-at .ensures))
-    (c .if2 .left))
-    (cost-on-paper _ _ _)
+    (c .if2 .left) in
+    (e, cost-on-paper _ _ _ e)
 
 returns-3 : tie.Need-returns-3
-returns-3 c = both (bad _ _ _ (sym (c .before .in-range .ensures) ∙ c .if1 .left)) (cost-on-paper _ _ _)
+returns-3 c = let e = bad _ _ _ (sym (c .before .in-range .ensures) ∙ c .if1 .left) in (e, cost-on-paper _ _ _ e)
 
 pub cost-of-spec : {M : Type 1} → statement M
 cost-of-spec =
