@@ -2,10 +2,10 @@
 ghost use mathlib.Core.Path.{_≡_};
 ghost use Prim.Native.Nat.{ℕ, _*_, _≤_};
 ghost use lib.ListN.{getD};
-ghost use Rattle.rules.specs.Words.{table};
-ghost use Rattle.rules.specs.Budget.{emptyRow, rowAt, shareAt, withBudget, rebudget, reshared as resharedOf, rebased as rebasedOf};
+ghost use Rattle.rules.specs.Budget.{emptyRow, rowAt, shareAt, reshared as resharedOf, rebased as rebasedOf};
 ghost use Rattle.rules.specs.Invariant.{worthMost};
 ghost use Rattle.rules.specs.Laws.Trees.{SoundTree, Within};
+ghost use Rattle.controller.specs.Rows.{rebudgetedRows};
 use rules::budget::Controller;
 use rules::budget::Row;
 
@@ -18,7 +18,7 @@ fn wide(x: u32) -> u64
 // The rows with each budget scaled from the share before to the share after.
 fn rebudgeted<'a>(rows: [Row; 64], before: &'a [u32; 64], after: &'a [u32; 64]) -> [Row; 64]
     requires { ⌜ ((n : ℕ) → getD rows n emptyRow .budget .0 * getD (now before) n 0 ≤ worthMost) ⌝ }
-    ensures { λ r. ⌜ r ≡ table (λ n. withBudget (rebudget (getD (now (before .entry)) n 0) (getD (now (after .entry)) n 0) (getD rows n emptyRow .budget)) (getD rows n emptyRow)) ⌝ }
+    ensures { λ r. ⌜ r ≡ rebudgetedRows rows (now (before .entry)) (now (after .entry)) ⌝ }
 {
     let mut next = rows;
     for n in 0..64usize {

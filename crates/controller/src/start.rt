@@ -1,10 +1,10 @@
 // Where a controller begins, and its pace: start and vrate.
 ghost use mathlib.Core.Path.{_≡_};
-ghost use Prim.Native.Nat.{ℕ};
 ghost use Rattle.rules.specs.Refusals.{verdictNumber, due, startChecks, vrateChecks};
-ghost use Rattle.rules.specs.Entries.{started, startedBy, slowestModel, noTree, vrated as vratedOf};
+ghost use Rattle.rules.specs.Entries.{started, slowestModel, noTree, vrated as vratedOf};
 ghost use Rattle.rules.specs.Budget.{fresh};
 ghost use Rattle.rules.specs.Plan.{vrateInRange};
+ghost use Rattle.controller.specs.Begun.{Unstarted};
 use rules::budget::Controller;
 use rules::budget::Outcome;
 use rules::cost::Model;
@@ -45,7 +45,7 @@ fn leafless() -> Controller
 }
 
 fn refused(x: Refusal) -> Outcome
-    ensures { λ r. ⌜ ((t : Tree) (s : Rates) (time : ℕ) → r ≡ startedBy (Verdict.Refused x) t s time) ⌝ }
+    ensures { λ r. ⌜ Unstarted x r ⌝ }
 {
     Outcome {
         answer: Verdict::Refused(x),

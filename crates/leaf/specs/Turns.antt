@@ -1,8 +1,15 @@
 -- What a leaf's turn leaves, as the code hands it out: the ids are in the lent buffer, and their count is beside the row.
 -- Assumes nothing.
+use mathlib.Core.Path.{_≡_}
+use mathlib.Core.List.{List}
+use Prim.Native.Nat.{ℕ}
 use lib.ListN.{length}
-use Rattle.rules.specs.Tick.{Turn}
+use Rattle.rules.specs.Tick.{Turn, lentAfter}
 use Rattle.leaf.specs.declared.tick.Turned.{Turned}
 
 abbrev pub turned : Turn → Turned
 turned t = record { row = t .row; queue = t .queue; count = length (t .ids) }
+
+-- the turn is handed out, and its ids stand at the front of the buffer that was lent
+abbrev pub Turns : Turn → List ℕ → Turned → List ℕ → Type 0
+Turns t lent r after = (r ≡ turned t) × (after ≡ lentAfter (t .ids) lent)

@@ -3,9 +3,9 @@
 ghost use mathlib.Core.Path.{_≡_};
 ghost use Prim.Native.Nat.{_+_, _*_, _^_, _≤_, _<_};
 ghost use lib.ListN.{length};
-ghost use Rattle.rules.specs.Tick.{gained as gainedOf, repayment as repaymentOf, repaid as repaidOf, releaseIn, released as releasedOf, turn as leafTurn, lentAfter};
+ghost use Rattle.rules.specs.Tick.{gained as gainedOf, repayment as repaymentOf, repaid as repaidOf, releaseIn, released as releasedOf, turn as leafTurn};
 ghost use Rattle.leaf.specs.Fit.{Fit, CanRepay, CanRelease, gainMost};
-ghost use Rattle.leaf.specs.Turns.{turned};
+ghost use Rattle.leaf.specs.Turns.{Turns};
 ghost use Rattle.leaf.specs.Alone.{cappedWith};
 use crate::queue;
 use crate::row;
@@ -59,7 +59,7 @@ fn repaid(share: u64, row: Row) -> Row
 // "waiting bios are released .."
 fn release_fitting(share: u64, mut row: Row, mut queue: Queue, out: &mut [u32]) -> Turned
     requires { ⌜ CanRelease share row queue × (queue .len ≤ length (now out)) ⌝ }
-    ensures { λ r. ⌜ (r ≡ turned (releaseIn (queue .len) share row queue)) × (now (out .exit) ≡ lentAfter (releaseIn (queue .len) share row queue .ids) (now (out .entry))) ⌝ }
+    ensures { λ r. ⌜ Turns (releaseIn (queue .len) share row queue) (now (out .entry)) r (now (out .exit)) ⌝ }
 {
     let mut count: usize = 0;
     while 0 < queue.len {
@@ -80,7 +80,7 @@ fn release_fitting(share: u64, mut row: Row, mut queue: Queue, out: &mut [u32]) 
 // "if it now owes nothing, .."
 fn released(share: u64, row: Row, queue: Queue, out: &mut [u32]) -> Turned
     requires { ⌜ CanRelease share row queue × (queue .len ≤ length (now out)) ⌝ }
-    ensures { λ r. ⌜ (r ≡ turned (releasedOf share row queue)) × (now (out .exit) ≡ lentAfter (releasedOf share row queue .ids) (now (out .entry))) ⌝ }
+    ensures { λ r. ⌜ Turns (releasedOf share row queue) (now (out .entry)) r (now (out .exit)) ⌝ }
 {
     if row::owes(row) {
         Turned {
@@ -113,7 +113,7 @@ fn capped(row: Row, waiting: u8) -> Row
 // "Then for each active leaf, .."
 pub fn turn(gain: Virt, share: u64, row: Row, queue: Queue, out: &mut [u32]) -> Turned
     requires { ⌜ Fit share row queue × (gain .0 ≤ gainMost) × (queue .len ≤ length (now out)) ⌝ }
-    ensures { λ r. ⌜ (r ≡ turned (leafTurn gain share row queue)) × (now (out .exit) ≡ lentAfter (leafTurn gain share row queue .ids) (now (out .entry))) ⌝ }
+    ensures { λ r. ⌜ Turns (leafTurn gain share row queue) (now (out .entry)) r (now (out .exit)) ⌝ }
 {
     let mut t = released(share, repaid(share, gained(gain, row)), queue, out);
     let left = t.row;

@@ -9,7 +9,7 @@ use native.Mathlib.Omega.{arith}
 use lib.ListN.{getD}
 use borrow.Author.Tests.{eq-eqb, ne-eqb}
 use Rattle.rules.specs.Numbers.{nodesMost, leafMost}
-use Rattle.rules.specs.Words.{sumTo, table, has, setOf}
+use Rattle.rules.specs.Words.{sumTo, table, has}
 use Rattle.rules.specs.Units.{abs}
 use Rattle.rules.specs.Tree.{baseShares}
 use Rattle.rules.specs.Budget.{rowAt, queueAt, shareAt}
@@ -26,6 +26,7 @@ use Rattle.rules.specs.Laws.Trees.{Within, no-root-within}
 use Rattle.rules.specs.Laws.Plans.{closed-worth, after-within, donor-active, donor-is}
 use Rattle.donation.specs.Donation as donation
 use Rattle.plan.specs.Sharing.{CanShare}
+use Rattle.plan.specs.Steps.{usageOf, stayingOf, targetsOf, donorsOf}
 use Rattle.leaf.specs.Alone.{staysWith, isDonorWith, donor-by-count}
 use Rattle.rules.specs.declared.units.Abs.{Abs}
 use Rattle.rules.specs.declared.budget.Controller.{Controller}
@@ -53,16 +54,16 @@ module _ (c : Controller) where
       sum-cong (λ n. getD usages n (abs 0) .0) (λ n. rowAt c n .usage .0) leafMost
       (λ n p h. ap (λ (u : Abs). u .0) (usage-at e n (omega arith)))
 
-  pub used-little : Sound c → {usages : List Abs} → Usages c usages → sumTo (λ n. getD usages n (abs 0) .0) leafMost ≤ 2 ^ 38
+  pub used-little : Sound c → {usages : List Abs} → Usages c usages → usageOf usages .0 ≤ 2 ^ 38
   used-little s e = rw (usage-of-all e) (usage-small s)
 
   pub quiet-by-usages : {usages : List Abs} {usage : Abs} {quiet : Bool} → Usages c usages
-      → usage ≡ abs (sumTo (λ n. getD usages n (abs 0) .0) leafMost) → quiet ≡ isQuiet usage (c .clock .since) → quiet ≡ quietIn c
+      → usage ≡ usageOf usages → quiet ≡ isQuiet usage (c .clock .since) → quiet ≡ quietIn c
   unfolding quietIn usageAll
   quiet-by-usages e f q = q ∙ ap (λ (u : Abs). isQuiet u (c .clock .since)) (f ∙ ap abs (usage-of-all e))
 
   pub active-by-waiting : (quiet : Bool) {waiting : List ℕ} {active : ℕ} → Waiting c waiting
-      → active ≡ setOf (λ n. has (c .active) n && staysWith (forgiven quiet (rowAt c n)) (getD waiting n 0))
+      → active ≡ stayingOf (c .active) quiet (c .rows) waiting
       → active ≡ activeAfter quiet c
   unfolding activeAfter
   active-by-waiting quiet e f =
@@ -70,12 +71,12 @@ module _ (c : Controller) where
       (λ n h. ap (λ (w : ℕ). has (c .active) n && staysWith (forgiven quiet (rowAt c n)) w) (waiting-here e n h))
 
   pub targets-by-usages : {usages : List Abs} {targets : List ℕ} → Usages c usages
-      → targets ≡ table (λ n. targetOf (c .clock .since) (getD usages n (abs 0)))
+      → targets ≡ targetsOf (c .clock .since) usages
       → targets ≡ table (λ n. targetOf (c .clock .since) (rowAt c n .usage))
   targets-by-usages e f = f ∙ table-cong _ _ (λ n h. ap (targetOf (c .clock .since)) (usage-at e n h))
 
   pub donors-by-waiting : (quiet : Bool) (active : ℕ) (bases targets : List ℕ) {waiting : List ℕ} {donors : ℕ} → Waiting c waiting
-      → donors ≡ setOf (λ n. has active n && isDonorWith (getD targets n 0) (getD bases n 0) (forgiven quiet (rowAt c n)) (getD waiting n 0))
+      → donors ≡ donorsOf active quiet (c .rows) waiting bases targets
       → donors ≡ donorsIn quiet active bases targets c
   unfolding donorsIn
   donors-by-waiting quiet active bases targets {waiting} e f =

@@ -18,6 +18,7 @@ use Rattle.rules.specs.Plan.{usedShare, targetOf}
 use Rattle.rules.specs.Laws.Bools.{and-not-right, or-right, or-neither}
 use Rattle.rules.specs.Laws.Sets.{set-small, set-cong, set-back, set-ext, has-set, has-past, has-setOf, setOf-fits, insert-here, insert-others}
 use Rattle.rules.specs.Laws.Units.{ceil-least}
+use Rattle.plan.specs.Steps.{leftAt}
 use Rattle.rules.specs.declared.units.Abs.{Abs}
 use Rattle.rules.specs.declared.units.Virt.{Virt}
 
@@ -48,10 +49,7 @@ module _ (p : ℕ → Bool) (s n : ℕ) (e : s ≡ setTo p n) where
         set-ext (setOf (λ k. has s k || eqb k n)) (setTo p (n + 1)) nodesMost (setOf-fits (λ k. has s k || eqb k n))
         (lt-of-lt-of-le (set-small p (n + 1)) (pow-mono last)) each
 
--- ---- nodes cleared one by one: of those before n the ones are left that p holds of, and from n on all
-abbrev pub leftAt : ℕ → (ℕ → Bool) → ℕ → ℕ → Bool
-leftAt active p n k = has active k && (leb n k || p k)
-
+-- ---- nodes cleared one by one
 module _ (active : ℕ) (p : ℕ → Bool) where
   pub none-cleared : active < 2 ^ nodesMost → active ≡ setOf (leftAt active p 0)
   none-cleared h =

@@ -1,20 +1,16 @@
 // The entry plan: debts are forgiven, idle leaves go inactive, base shares are worked out anew and donated, and usage
 // and E start at 0. Each function is one step; what a step does to one leaf is the crate leaf's.
 ghost use mathlib.Core.Path.{_≡_};
-ghost use mathlib.Core.Bool.{Bool, _&&_, _||_};
-ghost use Prim.Native.Nat.{ℕ, _+_, _^_, _≤_, _<_};
-ghost use lib.Dec.{leb};
-ghost use lib.ListN.{getD};
-ghost use Rattle.rules.specs.Numbers.{leafMost, sinceMost};
-ghost use Rattle.rules.specs.Words.{sumTo, table, has as member, setTo, setOf};
-ghost use Rattle.rules.specs.Units.{abs};
-ghost use Rattle.rules.specs.Budget.{emptyRow};
-ghost use Rattle.rules.specs.Plan.{isQuiet, forgiven as forgivenOf, rested, restarted, targetOf, closed as closedOf, shared as sharedOf};
+ghost use mathlib.Core.Bool.{_&&_};
+ghost use Prim.Native.Nat.{_^_, _≤_, _<_};
+ghost use Rattle.rules.specs.Numbers.{sinceMost};
+ghost use Rattle.rules.specs.Plan.{isQuiet, forgiven as forgivenOf, closed as closedOf, shared as sharedOf};
 ghost use Rattle.rules.specs.Refusals.{verdictNumber, due, planChecks};
 ghost use Rattle.rules.specs.Entries.{planned};
 ghost use Rattle.rules.specs.Invariant.{Sound};
 ghost use Rattle.leaf.specs.Alone.{staysWith, isDonorWith};
 ghost use Rattle.plan.specs.Sharing.{CanShare};
+ghost use Rattle.plan.specs.Steps.{usageOf, stayingOf, targetsOf, donorsOf, closedRows, Grows, Clears};
 use controller::shares::reshared;
 use donation::donated;
 use donation::is_donation;
@@ -37,8 +33,8 @@ use tree::shares::base_shares;
 
 // The usage of all leaves.
 fn usage_all(usages: [Abs; 64]) -> Abs
-    requires { ⌜ sumTo (λ n. getD usages n (abs 0) .0) leafMost ≤ 2 ^ 38 ⌝ }
-    ensures { λ r. ⌜ r ≡ abs (sumTo (λ n. getD usages n (abs 0) .0) leafMost) ⌝ }
+    requires { ⌜ usageOf usages .0 ≤ 2 ^ 38 ⌝ }
+    ensures { λ r. ⌜ r ≡ usageOf usages ⌝ }
 {
     let mut sum: u64 = 0;
     let mut n: usize = 0;
@@ -62,7 +58,7 @@ fn is_quiet(usage: Abs, since: Virt) -> bool
 // A set built node by node: of those passed, the ones that were inside.
 fn grown(set: u64, n: usize, inside: bool) -> u64
     requires { ⌜ n < 64 ⌝ }
-    ensures { λ r. ⌜ ((p : ℕ → Bool) → set ≡ setTo p n → inside ≡ p n → r ≡ setTo p (n + 1)) ⌝ }
+    ensures { λ r. ⌜ Grows set n inside r ⌝ }
 {
     if inside { insert(set, n) } else { set }
 }
@@ -74,10 +70,10 @@ fn keeps(quiet: bool, row: Row, waiting: u8) -> bool
     stays(forgiven(quiet, row), waiting)
 }
 
-// "becomes inactive": the bit of a leaf that does not stay is cleared. Of the nodes before n those stay that p holds of.
+// "becomes inactive": the bit of a leaf that does not stay is cleared.
 fn cleared(set: u64, n: usize, stay: bool) -> u64
     requires { ⌜ n < 64 ⌝ }
-    ensures { λ r. ⌜ ((active : ℕ) (p : ℕ → Bool) → set ≡ setOf (λ k. member active k && (leb n k || p k)) → stay ≡ p n → r ≡ setOf (λ k. member active k && (leb (n + 1) k || p k))) ⌝ }
+    ensures { λ r. ⌜ Clears set n stay r ⌝ }
 {
     if stay { set } else { remove(set, n) }
 }
@@ -95,7 +91,7 @@ fn gives(active: bool, quiet: bool, target: u32, base: u32, row: Row, waiting: u
 
 // "A leaf with no accepted bio .. becomes inactive": those active after the plan.
 fn active_after(active: u64, quiet: bool, rows: [Row; 64], waiting: [u8; 64]) -> u64
-    ensures { λ r. ⌜ r ≡ setOf (λ n. member active n && staysWith (forgivenOf quiet (getD rows n emptyRow)) (getD waiting n 0)) ⌝ }
+    ensures { λ r. ⌜ r ≡ stayingOf active quiet rows waiting ⌝ }
 {
     let mut kept = active;
     let mut n: usize = 0;
@@ -110,7 +106,7 @@ fn active_after(active: u64, quiet: bool, rows: [Row; 64], waiting: [u8; 64]) ->
 // The target of each leaf, by its usage since the last plan.
 fn targets_in(usages: [Abs; 64], since: Virt) -> [u32; 64]
     requires { ⌜ (0 < since .0) × (since .0 ≤ sinceMost) ⌝ }
-    ensures { λ r. ⌜ r ≡ table (λ n. targetOf since (getD usages n (abs 0))) ⌝ }
+    ensures { λ r. ⌜ r ≡ targetsOf since usages ⌝ }
 {
     let mut targets = [0u32; 64];
     let mut n: usize = 0;
@@ -131,7 +127,7 @@ fn donors_in<'a>(
     bases: &'a [u32; 64],
     targets: &'a [u32; 64],
 ) -> u64
-    ensures { λ r. ⌜ r ≡ setOf (λ n. member active n && isDonorWith (getD (now (targets .entry)) n 0) (getD (now (bases .entry)) n 0) (forgivenOf quiet (getD rows n emptyRow)) (getD waiting n 0)) ⌝ }
+    ensures { λ r. ⌜ r ≡ donorsOf active quiet rows waiting (now (bases .entry)) (now (targets .entry)) ⌝ }
 {
     let mut donors: u64 = 0;
     let mut n: usize = 0;
@@ -149,7 +145,7 @@ fn donors_in<'a>(
 
 // The rows once the plan is over.
 fn closed_rows(rows: [Row; 64], quiet: bool, active: u64) -> [Row; 64]
-    ensures { λ r. ⌜ r ≡ table (λ n. restarted (rested (member active n) (forgivenOf quiet (getD rows n emptyRow)))) ⌝ }
+    ensures { λ r. ⌜ r ≡ closedRows rows quiet active ⌝ }
 {
     let mut next = rows;
     for n in 0..64usize {

@@ -6,7 +6,7 @@ use mathlib.Core.List.{List}
 use Prim.Native.Nat.{ℕ, _<_, _≤_}
 use lib.ListN.{getD}
 use Rattle.rules.specs.Words.{has, setOf}
-use Rattle.rules.specs.Tree.{last, faultTo, isLeaf, isActive, childSum, shareOf}
+use Rattle.rules.specs.Tree.{last, level, nodeFault, faultTo, isLeaf, leavesOf, isActive, childSum, shareOf}
 use Rattle.rules.specs.Laws.Trees.{SoundTree, Within}
 use Rattle.rules.specs.declared.tree.Tree.{Tree}
 use Rattle.rules.specs.declared.tree.Fault.{Fault}
@@ -30,6 +30,16 @@ abbrev pub ActiveNodes : ℕ → List ℕ → ℕ → ℕ → Type 0
 ActiveNodes count ps active nodes =
     (ws : List ℕ) → SoundTree (treeOf count ps ws) → Within (treeOf count ps ws) active
     → nodes ≡ setOf (isActive (treeOf count ps ws) active)
+
+-- ---- what arrays show of every tree that has them: of a level parents decide, of the leaves the count too, of a fault the weights too
+abbrev pub LevelBy : List ℕ → ℕ → ℕ → Type 0
+LevelBy ps n r = (count : ℕ) (ws : List ℕ) → r ≡ level (treeOf count ps ws) n
+
+abbrev pub LeavesBy : ℕ → List ℕ → ℕ → Type 0
+LeavesBy count ps r = (ws : List ℕ) → r ≡ leavesOf (treeOf count ps ws)
+
+abbrev pub FaultBy : List ℕ → List ℕ → ℕ → Fault → Type 0
+FaultBy ps ws n r = (count : ℕ) → r ≡ nodeFault (treeOf count ps ws) n
 
 -- ---- a tree
 -- the first fault of its nodes

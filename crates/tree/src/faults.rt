@@ -1,10 +1,9 @@
 // The rules that a tree must keep, node by node: the first one that is broken is the tree's fault.
 ghost use mathlib.Core.Path.{_≡_};
-ghost use mathlib.Core.List.{List};
-ghost use Prim.Native.Nat.{ℕ, _-_, _<_, _≤_};
-ghost use Rattle.rules.specs.Tree.{last, level, weightInRange, nodeFault, treeFault, newestFault};
+ghost use Prim.Native.Nat.{_-_, _<_, _≤_};
+ghost use Rattle.rules.specs.Tree.{last, weightInRange, treeFault, newestFault};
 ghost use Rattle.rules.specs.Refusals.{isFault};
-ghost use Rattle.tree.specs.View.{treeOf, Climbs, firstFault};
+ghost use Rattle.tree.specs.View.{treeOf, Climbs, LevelBy, FaultBy, firstFault};
 use crate::wide;
 use rules::tree::Fault;
 use rules::tree::Tree;
@@ -22,7 +21,7 @@ const LEVEL_MOST: usize = 8;
 // How many levels a node lies below the root, by a call on its parent.
 fn level_of(parents: &[u8; 64], node: usize) -> usize
     requires { ⌜ Climbs (now parents) node × (node < 64) ⌝ }
-    ensures { λ r. ⌜ ((count : ℕ) (ws : List ℕ) → r ≡ level (treeOf count (now (parents .entry)) ws) node) × (r ≤ node) ⌝ }
+    ensures { λ r. ⌜ LevelBy (now (parents .entry)) node r × (r ≤ node) ⌝ }
 {
     if node == 0 {
         return 0;
@@ -43,7 +42,7 @@ fn weight_in_range(weight: u16) -> bool
 // The parent is judged first: only below a smaller one has a node a level.
 fn node_fault<'a>(parents: &'a [u8; 64], weights: &'a [u16; 64], node: usize) -> Fault
     requires { ⌜ Climbs (now parents) (node - 1) × (0 < node) × (node < 64) ⌝ }
-    ensures { λ r. ⌜ ((count : ℕ) → r ≡ nodeFault (treeOf count (now (parents .entry)) (now (weights .entry))) node) ⌝ }
+    ensures { λ r. ⌜ FaultBy (now (parents .entry)) (now (weights .entry)) node r ⌝ }
 {
     if node <= wide(parents[node]) {
         return Fault::Parent(node);

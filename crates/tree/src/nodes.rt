@@ -1,11 +1,10 @@
 // Sets of nodes of a tree: its leaves, and the nodes that are active with some of them. Weights play no part in them, so
 // what is found of lent parents holds of every tree with these parents.
 ghost use mathlib.Core.Path.{_≡_};
-ghost use mathlib.Core.List.{List};
-ghost use Prim.Native.Nat.{ℕ, _-_, _≤_};
+ghost use Prim.Native.Nat.{_-_, _≤_};
 ghost use Rattle.rules.specs.Tree.{leavesOf};
 ghost use Rattle.rules.specs.Laws.Trees.{SoundTree};
-ghost use Rattle.tree.specs.View.{treeOf, Climbs, Rooted, ActiveNodes};
+ghost use Rattle.tree.specs.View.{Climbs, Rooted, LeavesBy, ActiveNodes};
 use crate::wide;
 use rules::tree::Tree;
 use sets::has;
@@ -15,7 +14,7 @@ use sets::remove;
 // Each node is a leaf until a later one names it as its parent.
 pub(crate) fn leaves_in(parents: &[u8; 64], count: usize) -> u64
     requires { ⌜ Climbs (now parents) (count - 1) × (count ≤ 64) ⌝ }
-    ensures { λ r. ⌜ ((ws : List ℕ) → r ≡ leavesOf (treeOf count (now (parents .entry)) ws)) ⌝ }
+    ensures { λ r. ⌜ LeavesBy count (now (parents .entry)) r ⌝ }
 {
     let mut found: u64 = 0;
     let mut node: usize = 1;

@@ -12,7 +12,8 @@ use Rattle.rules.specs.Budget.{emptyRow}
 use Rattle.rules.specs.Plan.{forgiven}
 use Rattle.leaf.specs.Alone.{staysWith}
 use Rattle.rules.specs.declared.budget.Row.{Row}
-use Rattle.plan.proofs.Turns.{leftAt, none-cleared, all-cleared}
+use Rattle.plan.specs.Steps.{leftAt}
+use Rattle.plan.proofs.Turns.{none-cleared, all-cleared}
 use Rattle.plan.proofs.active_after.Statement.{statement}
 use Rattle.plan.proofs.active_after.Tie as tie
 

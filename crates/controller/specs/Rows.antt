@@ -1,0 +1,13 @@
+-- "Whenever a share rises ..", of every leaf at once.
+-- Assumes nothing.
+use mathlib.Core.List.{List}
+use Prim.Native.Nat.{ℕ}
+use lib.ListN.{getD}
+use Rattle.rules.specs.Words.{table}
+use Rattle.rules.specs.Budget.{emptyRow, withBudget, rebudget}
+use Rattle.rules.specs.declared.budget.Row.{Row}
+
+-- each budget scaled from its leaf's share before to the one after
+abbrev pub rebudgetedRows : List Row → List ℕ → List ℕ → List Row
+rebudgetedRows rows before after =
+    table (λ n. withBudget (rebudget (getD before n 0) (getD after n 0) (getD rows n emptyRow .budget)) (getD rows n emptyRow))
