@@ -121,7 +121,7 @@ fn cost_at(price: Price, sequential: bool, bytes: u32) -> Abs
 pub fn cost_of(model: Model, row: Row, bio: Bio) -> Costing
     requires { ⌜ SoundModel model ⌝ }
     ensures { λ r. ⌜ r ≡ costing model row bio ⌝ }
-    ensures paper { λ r. ⌜ costingPaper r ≡ paperOf (costChecks model row bio) (costOf model row bio .0 ∷ []) ⌝ }
+    ensures number { λ r. ⌜ costingPaper r ≡ paperOf (costChecks model row bio) (costOf model row bio .0 ∷ []) ⌝ }
 {
     if in_range(bio) {
         let price = price_for(model, bio);

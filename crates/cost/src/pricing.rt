@@ -87,7 +87,7 @@ fn price_of(bps: u64, seqiops: u64, randiops: u64) -> Price
 // Price a model.
 pub fn price(rates: Rates) -> Pricing
     ensures { λ r. ⌜ r ≡ pricing rates ⌝ }
-    ensures paper { λ r. ⌜ pricingPaper r ≡ paperOf (rateChecks rates) (modelValues (priced rates)) ⌝ }
+    ensures number { λ r. ⌜ pricingPaper r ≡ paperOf (rateChecks rates) (modelValues (priced rates)) ⌝ }
 {
     if rates_in_range(rates) {
         let read = price_of(rates.rbps, rates.rseqiops, rates.rrandiops);

@@ -126,7 +126,7 @@ fn on_leaf(bio: Bio, cost: Abs, share: u64, row: Row, queue: Queue) -> Judged
 pub fn submit(mut c: Controller, bio: Bio) -> Submitted
     requires { ⌜ Sound c ⌝ }
     ensures { λ r. ⌜ r ≡ submitted bio c ⌝ }
-    ensures paper { λ r. ⌜ answerPaper (r .answer) ≡ paperOf (submitChecks bio c) (answerValues (wouldBe c bio)) ⌝ }
+    ensures number { λ r. ⌜ answerPaper (r .answer) ≡ paperOf (submitChecks bio c) (answerValues (wouldBe c bio)) ⌝ }
 {
     let node = node_of(bio);
     let mut answer = Answer::Refused(Refusal::NoLeaf);

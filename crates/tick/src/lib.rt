@@ -28,7 +28,7 @@ fn wide(x: u8) -> usize
 pub fn tick(c: Controller, time: u64, out: &mut [u32]) -> Ticked
     requires { ⌜ Sound c ⌝ }
     ensures { λ r. ⌜ (r ≡ ticked time (now (out .entry)) c) × (now (out .exit) ≡ lentOf time (now (out .entry)) c) ⌝ }
-    ensures paper { λ r. ⌜ countPaper (r .answer) ≡ paperOf (tickChecks time (length (now (out .entry))) c) (length (releases (growth (c .clock) time) c) ∷ []) ⌝ }
+    ensures number { λ r. ⌜ countPaper (r .answer) ≡ paperOf (tickChecks time (length (now (out .entry))) c) (length (releases (growth (c .clock) time) c) ∷ []) ⌝ }
 {
     let verdict = clock::verdict(c.clock, time);
     if let Verdict::Refused(refusal) = verdict {
