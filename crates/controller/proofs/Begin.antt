@@ -17,10 +17,6 @@ use Rattle.rules.specs.declared.refusals.Verdict.{Verdict}
 use Rattle.rules.specs.declared.refusals.Verdict.the-variants.{Accepted, Refused}
 use Rattle.rules.specs.declared.refusals.Pricing.the-variants.{Priced, Refused as Unpriced}
 
--- what is promised, and what that says on paper
-pub both : {A B : Type 0} → A → (A → B) → A × B
-both a f = (a, f a)
-
 module _ (t : Tree) (r : Rates) (time : ℕ) where
   pub tree-refuses : (x : Refusal) → treeVerdict t ≡ Refused x → started t r time ≡ startedBy (Refused x) t r time
   unfolding treeVerdict started startChecks

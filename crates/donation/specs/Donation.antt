@@ -24,7 +24,7 @@ pub record Donation (active donors : ℕ) (bases targets : List ℕ) : Type 0 wh
   pub sum-most : sumOver (has active) bases ≤ WHOLE
   pub donates : isDonation active donors ≡ true
 
--- left is S - T and kept is S - D: a taker's base share is part of what is kept
+-- what a quotient for each taker asks of left and kept, which stand for S - T and S - D: a taker's base share is within kept
 pub record Parts (active donors left kept : ℕ) (bases : List ℕ) : Type 0 where
   pub left-most : left ≤ WHOLE
   pub some-kept : 0 < kept

@@ -74,6 +74,10 @@ unfolding writeChecks
 write-refusals r lent = refl
 
 -- ---- "Each returns its number": an entry that answers as its rule does says this on paper
+-- what is promised, and what follows from it
+pub both : {A B : Type 0} → A → (A → B) → A × B
+both a f = (a, f a)
+
 pub price-on-paper : (rates : Rates) {r : Pricing} → r ≡ pricing rates → pricingPaper r ≡ paperOf (rateChecks rates) (modelValues (priced rates))
 unfolding pricing pricingBy
 price-on-paper rates e = ap pricingPaper e ∙ go (firstOf (rateChecks rates))

@@ -3,11 +3,11 @@
 use mathlib.Core.Path.{_≡_, sym, _∙_}
 use borrow.Author.Needs.{needs}
 use Rattle.rules.specs.Entries.{treeVerdict}
-use Rattle.rules.specs.Laws.Refusals.{start-on-paper}
+use Rattle.rules.specs.Laws.Refusals.{both, start-on-paper}
 use Rattle.rules.specs.Laws.Trees.{sound-tree}
 use Rattle.rules.specs.Laws.TreeVerdicts.{accepted-exactly-when}
 use Rattle.rules.specs.declared.refusals.Verdict.the-variants.{Accepted}
-use Rattle.controller.proofs.Begin.{both, tree-refuses, rates-refuse, start-accepts}
+use Rattle.controller.proofs.Begin.{tree-refuses, rates-refuse, start-accepts}
 use Rattle.controller.proofs.start.start.Statement.{statement}
 use Rattle.controller.proofs.start.start.Tie as tie
 

@@ -6,8 +6,7 @@ use mathlib.Core.Bool.{true, false}
 use Rattle.rules.specs.Plan.{vrateInRange}
 use Rattle.rules.specs.Refusals.{vrateChecks}
 use Rattle.rules.specs.Entries.{vrated, vratedBy}
-use Rattle.rules.specs.Laws.Refusals.{vrate-on-paper}
-use Rattle.controller.proofs.Begin.{both}
+use Rattle.rules.specs.Laws.Refusals.{both, vrate-on-paper}
 use Rattle.controller.proofs.start.vrate.Statement.{statement}
 use Rattle.controller.proofs.start.vrate.Tie as tie
 

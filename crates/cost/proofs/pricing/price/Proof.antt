@@ -6,13 +6,9 @@ use Rattle.rules.specs.Cost.{priced}
 use Rattle.rules.specs.Refusals.{rateChecks}
 use Rattle.rules.specs.Entries.{pricing, pricingBy}
 use Rattle.rules.specs.Laws.Costs.{rates-in-range}
-use Rattle.rules.specs.Laws.Refusals.{price-on-paper}
+use Rattle.rules.specs.Laws.Refusals.{both, price-on-paper}
 use Rattle.cost.proofs.pricing.price.Statement.{statement}
 use Rattle.cost.proofs.pricing.price.Tie as tie
-
--- what is promised, and what that says on paper
-both : {A B : Type 0} → A → (A → B) → A × B
-both a f = (a, f a)
 
 rates-in-range-requires : tie.Need-rates-in-range-requires
 rates-in-range-requires c κs = search needs
