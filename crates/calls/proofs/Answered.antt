@@ -8,12 +8,12 @@ use lib.ListN.{length, take}
 use Rattle.rules.specs.Numbers.{lineRoom}
 use Rattle.rules.specs.Refusals.{firstOf, tickChecks}
 use Rattle.rules.specs.Tick.{growth, releases}
-use Rattle.rules.specs.Replay.{refusalLine, answerLine, releaseLines, tickLines, planLines, verdictLines, allRoom}
+use Rattle.rules.specs.Replay.{refusalLine, answerLine, releaseLines, tickLines, planLines, verdictLines, allRoom, shareLinesOf}
 use Rattle.rules.specs.Chunks.{callOf, calling}
 use Rattle.rules.specs.Entries.{submitted, ticked, tickedBy, lentOf, planned, vrated}
 use Rattle.rules.specs.Invariant.{Sound}
-use Rattle.rules.specs.Laws.Buffers.{Written}
-use Rattle.rules.specs.Laws.Lines.{shareLinesOf, share-lines}
+use Rattle.rules.specs.Buffers.{Written}
+use Rattle.rules.specs.Laws.Lines.{share-lines}
 use Rattle.rules.specs.Laws.Ticks.{tick-releases-fit}
 use Rattle.rules.specs.Laws.Bools.{never}
 use Rattle.rules.specs.declared.cost.Bio.{Bio}

@@ -4,10 +4,9 @@ use mathlib.Core.Path.{_≡_}
 use mathlib.Core.List.{List}
 use Prim.Native.Nat.{ℕ, _*_, _≤_}
 use Rattle.rules.specs.Numbers.{lineRoom}
-use Rattle.rules.specs.Replay.{refusalLine}
+use Rattle.rules.specs.Replay.{refusalLine, shareLinesOf}
 use Rattle.rules.specs.Chunks.{Run}
-use Rattle.rules.specs.Laws.Buffers.{Written}
-use Rattle.rules.specs.Laws.Lines.{shareLinesOf}
+use Rattle.rules.specs.Buffers.{Written}
 use Rattle.rules.specs.declared.refusals.Count.{Count}
 use Rattle.rules.specs.declared.refusals.Count.the-variants.{Released, Refused as Unticked}
 use Rattle.rules.specs.declared.refusals.Verdict.{Verdict}

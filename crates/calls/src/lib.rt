@@ -7,7 +7,7 @@ ghost use lib.ListN.{length};
 ghost use Rattle.rules.specs.Numbers.{lineRoom};
 ghost use Rattle.rules.specs.Replay.{tickLines, nextPlace};
 ghost use Rattle.rules.specs.Chunks.{callOf, isCall, isRunning, runs as runsOf, runFrom};
-ghost use Rattle.rules.specs.Laws.Buffers.{Written};
+ghost use Rattle.rules.specs.Buffers.{Written};
 ghost use Rattle.rules.specs.Invariant.{Sound};
 ghost use Rattle.calls.specs.Calls.{CanPrint, planLinesOf, RanAs};
 use rules::budget::Controller;

@@ -8,7 +8,7 @@ ghost use Rattle.rules.specs.Units.{abs, CEIL};
 ghost use Rattle.rules.specs.Cost.{bioInRange, isWrite, isForced, isNear, isSequential, endOf, costAt, costOf};
 ghost use Rattle.rules.specs.Refusals.{costingPaper, paperOf, costChecks};
 ghost use Rattle.rules.specs.Entries.{costing};
-ghost use Rattle.rules.specs.Laws.Costs.{SoundPrice, SoundModel};
+ghost use Rattle.rules.specs.Invariant.{SoundPrice, SoundModel};
 use crate::PAGE_BYTES;
 use rules::budget::Row;
 use rules::cost::Bio;

@@ -3,7 +3,7 @@ ghost use mathlib.Core.Path.{_≡_};
 ghost use Prim.Native.Nat.{_≤_};
 ghost use Rattle.rules.specs.Numbers.{vtimeMost};
 ghost use Rattle.rules.specs.Invariant.{Sound};
-ghost use Rattle.rules.specs.Bench.{aged as agedTo};
+ghost use Rattle.rules.specs.Bench.Run.{aged as agedTo};
 use crate::calls;
 use rules::budget::Controller;
 use rules::cost::Rates;

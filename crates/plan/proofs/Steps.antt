@@ -16,13 +16,13 @@ use Rattle.rules.specs.Budget.{rowAt, queueAt, shareAt}
 use Rattle.rules.specs.Plan.{usageAll, isQuiet, forgiven, targetOf, isDonor, quietIn, activeAfter, targetsIn, donorsIn, closed, shared, plan}
 use Rattle.rules.specs.Refusals.{planChecks}
 use Rattle.rules.specs.Entries.{plannedBy, planned}
-use Rattle.rules.specs.Invariant.{worthMost, Sound}
+use Rattle.rules.specs.Invariant.{worthMost, Sound, Within}
 use Rattle.rules.specs.Laws.Bools.{true-not-false, is-false}
 use Rattle.rules.specs.Laws.Sets.{set-cong}
 use Rattle.rules.specs.Laws.Sums.{sum-cong}
 use Rattle.rules.specs.Laws.Tables.{table-at, table-cong}
 use Rattle.rules.specs.Laws.States.{usage-small}
-use Rattle.rules.specs.Laws.Trees.{Within, no-root-within}
+use Rattle.rules.specs.Laws.Trees.{no-root-within}
 use Rattle.rules.specs.Laws.Plans.{closed-worth, after-within, donor-active, donor-is}
 use Rattle.donation.specs.Donation as donation
 use Rattle.plan.specs.Sharing.{CanShare}

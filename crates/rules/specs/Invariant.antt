@@ -4,13 +4,15 @@ use mathlib.Core.Path.{_≡_}
 use mathlib.Core.Bool.{true, false}
 use Prim.Native.Nat.{ℕ, _+_, _*_, _^_, _≤_, _<_}
 use lib.ListN.{length, getD}
-use Rattle.rules.specs.Numbers.{WHOLE, nodesMost, leafMost, queueRoom, shareFloor, costMost, debtMost, vtimeMost, sinceMost, vrateLeast, vrateMost, endMost}
+use Rattle.rules.specs.Numbers.{WHOLE, second, nodesMost, leafMost, weightLeast, weightMost, levelMost, elapsedMost, queueRoom, shareFloor, costMost, debtMost, vtimeMost, sinceMost, vrateLeast, vrateMost, endMost}
 use Rattle.rules.specs.Words.{sumTo, has, noNode}
 use Rattle.rules.specs.Units.{abs}
 use Rattle.rules.specs.Cost.{ratesInRange, priced}
-use Rattle.rules.specs.Tree.{parent, last, leavesOf, baseShare, baseShares, isThin}
+use Rattle.rules.specs.Tree.{parent, weight, last, level, isLeaf, leavesOf, baseShare, baseShares, isThin}
 use Rattle.rules.specs.Budget.{rowAt, queueAt, shareAt}
-use Rattle.rules.specs.Laws.Trees.{SoundTree, Within}
+use Rattle.rules.specs.Tick.{growth, waitingAll}
+use Rattle.rules.specs.declared.tree.Tree.{Tree}
+use Rattle.rules.specs.declared.cost.Price.{Price}
 use Rattle.rules.specs.declared.cost.Rates.{Rates}
 use Rattle.rules.specs.declared.cost.Model.{Model}
 use Rattle.rules.specs.declared.budget.Row.{Row}
@@ -19,9 +21,32 @@ use Rattle.rules.specs.declared.budget.Clock.{Clock}
 use Rattle.rules.specs.declared.budget.Controller.{Controller}
 use Rattle.rules.specs.declared.replay.Replay.{Replay}
 
+-- ---- a sound tree: what every node but the root keeps. It may have too few nodes: the tree with none is sound
+pub record SoundTree (t : Tree) : Type 0 where
+  pub most : t .count ≤ nodesMost
+  pub up : (n : ℕ) → 0 < n → n ≤ last t → parent t n < n
+  pub light : (n : ℕ) → 0 < n → n ≤ last t → weightLeast ≤ weight t n
+  pub heavy : (n : ℕ) → 0 < n → n ≤ last t → weight t n ≤ weightMost
+  pub shallow : (n : ℕ) → 0 < n → n ≤ last t → level t n ≤ levelMost
+
+-- only leaves are in the set
+abbrev pub Within : Tree → ℕ → Type 0
+Within t active = (n : ℕ) → has active n ≡ true → isLeaf t n ≡ true
+
 -- the most that budget x share comes to between two calls: a waiter of the dearest cost that just does not fit
 abbrev pub worthMost : ℕ
 worthMost = 2 ^ 61 + 2 ^ 30
+
+-- ---- what a priced model keeps, so that every sum and product over it fits
+pub record SoundPrice (p : Price) : Type 0 where
+  pub pageLeast : 4 ≤ p .page .0
+  pub pageMost : p .page .0 ≤ second
+  pub sequentialMost : p .sequential .0 ≤ second
+  pub randomMost : p .random .0 ≤ second
+
+pub record SoundModel (m : Model) : Type 0 where
+  pub reads : SoundPrice (m .read)
+  pub writes : SoundPrice (m .write)
 
 -- a model that was priced from rates in range
 pub record PricedModel (m : Model) : Type 0 where
@@ -94,3 +119,11 @@ pub record Playing (s : Replay) : Type 0 where
   pub most : s .tree .count ≤ nodesMost
   pub up : (n : ℕ) → 0 < n → n ≤ last (s .tree) → parent (s .tree) n < n
   pub state : Sound (s .state)
+
+-- what an accepted tick has passed
+pub record TickPasses (time places : ℕ) (c : Controller) : Type 0 where
+  pub forward : c .clock .time ≤ time
+  pub near : time ≤ c .clock .time + elapsedMost
+  pub vtime : c .clock .vtime .0 + growth (c .clock) time .0 ≤ vtimeMost
+  pub since : c .clock .since .0 + growth (c .clock) time .0 ≤ sinceMost
+  pub room : waitingAll c ≤ places

@@ -11,6 +11,8 @@ pub mod Entries
 pub mod Trace
 pub mod Replay
 pub mod Chunks
+pub mod Buffers
+pub mod Ledger
 pub mod Bench
 pub mod Laws
 pub mod Invariant

@@ -4,10 +4,10 @@ use mathlib.Core.Bool.{Bool, true, false, cond, _||_}
 use mathlib.Core.List.{List, [], _∷_, _++_}
 use Prim.Native.Nat.{ℕ, zero, suc, _+_, _/_, _%_}
 use lib.Dec.{eqb, leb, ltb}
-use lib.ListN.{length, take, set, replicate}
+use lib.ListN.{length, getD, take, set, replicate}
 use Rattle.rules.specs.Numbers.{nodesMost, leafMost, waitingMost, letterI, letterW, letterD}
 use Rattle.rules.specs.Words.{joinTo, has}
-use Rattle.rules.specs.Budget.{fresh, shareAt}
+use Rattle.rules.specs.Budget.{fresh}
 use Rattle.rules.specs.Refusals.{number, firstOf, nodeChecks, rateChecks}
 use Rattle.rules.specs.Entries.{noTree, slowest, slowestModel, started, submitted, ticked, lentOf, planned, vrated}
 use Rattle.rules.specs.Trace.{kindOf, readAt}
@@ -65,8 +65,19 @@ unfoldable pub tickLines : Counted → List ℕ → List ℕ
 tickLines (Released n) lent = releaseLines (take n lent)
 tickLines (Unticked x) lent = refusalLine x
 
+-- ---- the shares of the active leaves, by rising number
+abbrev pub leafLine : ℕ → ℕ → ℕ → List ℕ
+leafLine active n share = cond (has active n) (line 80 (n ∷ share ∷ [])) []
+
+-- of the leaves up to m
+unfoldable pub shareLinesTo : ℕ → List ℕ → ℕ → List ℕ
+shareLinesTo active shares m = joinTo (λ n. leafLine active n (getD shares n 0)) m
+
+abbrev pub shareLinesOf : ℕ → List ℕ → List ℕ
+shareLinesOf active shares = shareLinesTo active shares leafMost
+
 unfoldable pub shareLines : Controller → List ℕ
-shareLines c = joinTo (λ n. cond (has (c .active) n) (line 80 (n ∷ shareAt c n ∷ [])) []) leafMost
+shareLines c = shareLinesOf (c .active) (c .shares)
 
 unfoldable pub planLines : Verdict → Controller → List ℕ
 planLines Accepted c = shareLines c

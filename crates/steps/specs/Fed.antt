@@ -8,7 +8,7 @@ use lib.ListN.{length, take, drop}
 use Rattle.rules.specs.Replay.{replay}
 use Rattle.rules.specs.Chunks.{part, fed, whole, wholePart}
 use Rattle.rules.specs.Invariant.{Playing}
-use Rattle.rules.specs.Laws.Buffers.{Written}
+use Rattle.rules.specs.Buffers.{Written}
 use Rattle.rules.specs.declared.replay.Replay.{Replay}
 use Rattle.rules.specs.declared.replay.Fed.{Fed}
 use Rattle.rules.specs.declared.replay.Printed.{Printed}

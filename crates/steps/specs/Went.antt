@@ -5,7 +5,7 @@ use mathlib.Core.List.{List}
 use Prim.Native.Nat.{ℕ}
 use Rattle.rules.specs.Replay.{Step}
 use Rattle.rules.specs.Chunks.{stepping, steppedTo}
-use Rattle.rules.specs.Laws.Buffers.{Written}
+use Rattle.rules.specs.Buffers.{Written}
 use Rattle.rules.specs.declared.trace.Read.{Read}
 use Rattle.rules.specs.declared.replay.Replay.{Replay}
 use Rattle.rules.specs.declared.replay.Stepped.{Stepped}

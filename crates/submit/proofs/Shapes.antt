@@ -16,9 +16,9 @@ use Rattle.rules.specs.Tree.{isLeaf}
 use Rattle.rules.specs.Budget.{emptyRow, emptyQueue, rowAt, queueAt, shareAt, putLeaf, rebased, reshared, entered, answerTo, rowAfter, queueAfter, endsDonation, answerIn, applied, settled, submission, wouldBe}
 use Rattle.rules.specs.Refusals.{firstOf, costChecks, roomChecks, submitChecks}
 use Rattle.rules.specs.Entries.{costing, costingBy, submittedBy, submitted}
-use Rattle.rules.specs.Invariant.{worthMost, Sound}
-use Rattle.rules.specs.Laws.Costs.{SoundModel, priced-sound, bio-in-range, costing-costs-exactly-when}
-use Rattle.rules.specs.Laws.Trees.{SoundTree, Within, leaf-last, last-most, leaves-are}
+use Rattle.rules.specs.Invariant.{worthMost, Sound, SoundModel, SoundTree, Within}
+use Rattle.rules.specs.Laws.Costs.{priced-sound, bio-in-range, costing-costs-exactly-when}
+use Rattle.rules.specs.Laws.Trees.{leaf-last, last-most, leaves-are}
 use Rattle.rules.specs.Laws.Resharing.{Reweighed, active-node, activeWith, activated-is, entering-keeps, entering-reweighs, entered-is-active}
 use Rattle.rules.specs.Laws.Submits.{costIn, put-each, reweighed-debt, reweighed-queue, reweighed-cost}
 use Rattle.rules.specs.Laws.Bools.{never}

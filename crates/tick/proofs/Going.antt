@@ -11,12 +11,12 @@ use Rattle.rules.specs.Words.{sumTo, joinTo, table, has}
 use Rattle.rules.specs.Budget.{rowAt, queueAt, shareAt, emptyRow, emptyQueue}
 use Rattle.rules.specs.Tick.{Turn, growth, advanced, turn, turnOf, releases, lentAfter, tick, waitingAll}
 use Rattle.rules.specs.Entries.{tickedBy, lentBy}
-use Rattle.rules.specs.Invariant.{Sound}
-use Rattle.rules.specs.Laws.Buffers.{Written, Stands, restOf, putBack, stands-none, stands-rest, stands-more}
+use Rattle.rules.specs.Invariant.{Sound, TickPasses}
+use Rattle.rules.specs.Laws.Buffers.{stands-none, stands-rest, stands-more}
 use Rattle.rules.specs.Laws.Sums.{sum-step, sum-le, sum-part, length-join, join-step}
 use Rattle.rules.specs.Laws.Tables.{getD-inside}
 use Rattle.rules.specs.Laws.Sweeps.{swept, place-here, place-put, place-skip, places-done}
-use Rattle.rules.specs.Laws.Passes.{TickPasses}
+use Rattle.rules.specs.Buffers.{Written, Stands, restOf, putBack}
 use Rattle.rules.specs.Laws.States.{share-most, usage-small-at}
 use Rattle.rules.specs.Laws.Ticks.{active-turn, idle-turn, leaf-tick}
 use Rattle.rules.specs.Laws.Trees.{no-root-within}

@@ -3,8 +3,7 @@
 ghost use mathlib.Core.Path.{_≡_};
 ghost use lib.ListN.{length};
 ghost use Rattle.rules.specs.Entries.{tickedBy, lentBy};
-ghost use Rattle.rules.specs.Invariant.{Sound};
-ghost use Rattle.rules.specs.Laws.Passes.{TickPasses};
+ghost use Rattle.rules.specs.Invariant.{Sound, TickPasses};
 ghost use Rattle.rules.specs.declared.refusals.Verdict.the-variants.{Accepted};
 use crate::clock;
 use rules::budget::Controller;

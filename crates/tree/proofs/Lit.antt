@@ -17,9 +17,10 @@ use Rattle.rules.specs.declared.tree.Tree.{Tree}
 use Rattle.rules.specs.Laws.Bools.{same-test, and-left, and-right, and-both}
 use Rattle.rules.specs.Laws.Sums.{sum-step}
 use Rattle.rules.specs.Laws.Sets.{has-setOf, setOf-fits, has-node, set-cong, set-back}
-use Rattle.rules.specs.Laws.Trees.{SoundTree, Within, leaf-active, active-last, active-up, child-in, share-root, share-step, share-le}
+use Rattle.rules.specs.Laws.Trees.{leaf-active, active-last, active-up, child-in, share-root, share-step, share-le}
 use Rattle.tree.specs.View.{treeOf, leavesIn, Lit, childSumIn, shareAmong}
 use Rattle.tree.proofs.View.{parent-at, weight-at, last-at}
+use Rattle.rules.specs.Invariant.{SoundTree, Within}
 
 -- ---- from the active leaves to the active nodes and back
 module _ {t : Tree} (sound : SoundTree t) (active : ℕ) (within : Within t active) (fits : active < 2 ^ nodesMost)

@@ -16,7 +16,8 @@ use Rattle.rules.specs.declared.tree.Tree.{Tree}
 use Rattle.rules.specs.Laws.Bools.{same-test, and-left, and-right, and-both, and-not-right, or-left, or-right, or-cases}
 use Rattle.rules.specs.Laws.Sums.{any-in, any-out, any-cong}
 use Rattle.rules.specs.Laws.Sets.{has-setOf, setOf-fits, set-cong, set-back}
-use Rattle.rules.specs.Laws.Trees.{SoundTree, Within, active-step, last-most}
+use Rattle.rules.specs.Laws.Trees.{active-step, last-most}
+use Rattle.rules.specs.Invariant.{SoundTree, Within}
 
 -- an active child of n, with a number from m on
 abbrev hit : Tree → ℕ → ℕ → ℕ → ℕ → Bool

@@ -17,12 +17,13 @@ use Rattle.rules.specs.Laws.Bools.{true-not-false, and-both}
 use Rattle.rules.specs.Laws.Sums.{any-in, none-any}
 use Rattle.rules.specs.Laws.Tables.{table-length, table-at, table-set, table-cong}
 use Rattle.rules.specs.Laws.Sets.{has-none, has-setOf, setOf-fits, has-node, remove-here, remove-others}
-use Rattle.rules.specs.Laws.Trees.{SoundTree, Within, leaf-pos, leaf-last, leaves-within, leaves-are, active-leaf, share-le}
+use Rattle.rules.specs.Laws.Trees.{leaf-pos, leaf-last, leaves-within, leaves-are, active-leaf, share-le}
 use Rattle.rules.specs.Laws.Shares.{base-share-is}
 use Rattle.sets.specs.Lowest.{Lowest}
 use Rattle.sets.specs.Visit.{LeftOf}
 use Rattle.tree.specs.View.{leavesIn, Lit}
 use Rattle.tree.proofs.Lit.{leaves-back, lit-here}
+use Rattle.rules.specs.Invariant.{SoundTree, Within}
 
 -- ---- a leaf of the set is asked for its share
 module _ {t : Tree} (sound : SoundTree t) (active : ℕ) (within : Within t active) (fits : active < 2 ^ nodesMost)

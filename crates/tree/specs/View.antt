@@ -7,7 +7,7 @@ use Prim.Native.Nat.{ℕ, _<_, _≤_}
 use lib.ListN.{getD}
 use Rattle.rules.specs.Words.{has, setOf}
 use Rattle.rules.specs.Tree.{last, level, nodeFault, faultTo, isLeaf, leavesOf, isActive, childSum, shareOf}
-use Rattle.rules.specs.Laws.Trees.{SoundTree, Within}
+use Rattle.rules.specs.Invariant.{SoundTree, Within}
 use Rattle.rules.specs.declared.tree.Tree.{Tree}
 use Rattle.rules.specs.declared.tree.Fault.{Fault}
 

@@ -3,7 +3,7 @@
 ghost use mathlib.Core.Path.{_≡_};
 ghost use Prim.Native.Nat.{_-_, _≤_};
 ghost use Rattle.rules.specs.Tree.{leavesOf};
-ghost use Rattle.rules.specs.Laws.Trees.{SoundTree};
+ghost use Rattle.rules.specs.Invariant.{SoundTree};
 ghost use Rattle.tree.specs.View.{Climbs, Rooted, LeavesBy, ActiveNodes};
 use crate::wide;
 use rules::tree::Tree;

@@ -5,7 +5,7 @@ ghost use Prim.Native.Nat.{_*_, _^_, _<_};
 ghost use Rattle.rules.specs.Units.{FLOOR};
 ghost use Rattle.rules.specs.Words.{has as member};
 ghost use Rattle.rules.specs.Tree.{baseShares, isThin};
-ghost use Rattle.rules.specs.Laws.Trees.{SoundTree, Within};
+ghost use Rattle.rules.specs.Invariant.{SoundTree, Within};
 ghost use Rattle.tree.specs.View.{treeOf, Lit, childSumIn, shareAmong};
 use crate::heavy;
 use crate::nodes::active_nodes;

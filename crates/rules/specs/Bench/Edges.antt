@@ -18,7 +18,7 @@ use Rattle.rules.specs.Refusals.{Check, firstOf, isFault, verdictNumber,
 use Rattle.rules.specs.Entries.{costing, started, submitted, ticked, lentOf, planned, vrated, slowest}
 use Rattle.rules.specs.Trace.{recordBytes, writing, readAt}
 use Rattle.rules.specs.Replay.{digits, shareLines, inPhase, beginning, grown, Step, stepped, nextPlace, tickCall, replay, within, rootTree}
-use Rattle.rules.specs.Demand3.Ledger.{Call, costWaiting, costOfFirst, waiting, owed, costOn, releasedAt, repaidAt, forgivenAt, accepted, issued, released, repaid, forgiven, generated, charged, saved}
+use Rattle.rules.specs.Ledger.{Call, costWaiting, costOfFirst, waiting, owed, costOn, releasedAt, repaidAt, forgivenAt, accepted, issued, released, repaid, forgiven, generated, charged, saved}
 use Rattle.rules.specs.declared.cost.Price.{Price}
 use Rattle.rules.specs.declared.cost.Model.{Model}
 use Rattle.rules.specs.declared.units.Abs.{Abs}
@@ -35,7 +35,8 @@ use Rattle.rules.specs.declared.trace.Read.the-variants.{Found}
 use Rattle.rules.specs.declared.replay.Phase.{Phase}
 use Rattle.rules.specs.declared.replay.Phase.the-variants.{Setup, Priced, Running, Stopped}
 use Rattle.rules.specs.declared.replay.Replay.{Replay}
-use Rattle.rules.specs.Bench.{computed, bytesOfAll, B, ratesM, M, bio, atZero, costNumber, tree, tree5, tree6, tree7, runTree, clockAt, running, saved as savedRow, used, state9, letter, plan10, allRight, Case}
+use Rattle.rules.specs.Bench.Run.{runTree}
+use Rattle.rules.specs.Bench.{computed, bytesOfAll, B, ratesM, M, bio, atZero, costNumber, tree, tree5, tree6, tree7, clockAt, running, saved as savedRow, used, state9, letter, plan10, allRight, Case}
 
 -- ---- the edges: each number of document 01, on it and one past it, and small cases of what B1 to B12 do not reach
 abbrev is : Bool → Case

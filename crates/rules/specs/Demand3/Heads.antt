@@ -22,7 +22,7 @@ use Rattle.rules.specs.Plan.{usageAll, isDonation, donated, closed, shar
 use Rattle.rules.specs.Refusals.{firstOf, submitChecks, tickChecks, planChecks, vrateChecks}
 use Rattle.rules.specs.Entries.{submitted, submittedBy, ticked, tickedBy, lentOf, lentBy, planned, plannedBy, vrated, vratedBy}
 use Rattle.rules.specs.Invariant.{Sound}
-use Rattle.rules.specs.Demand3.Ledger.{Call, after, costWaiting, costOfFirst, idWaiting, idsOfFirst, waiting, owed, ifTaken, ifIssued, ifWaits, ifOnDebt, costOn, ifAccepted, releasedAt, repaidAt, accepted, issued, released, repaid, forgiven, generated}
+use Rattle.rules.specs.Ledger.{Call, after, costWaiting, costOfFirst, idWaiting, idsOfFirst, waiting, owed, ifTaken, ifIssued, ifWaits, ifOnDebt, costOn, ifAccepted, releasedAt, repaidAt, accepted, issued, released, repaid, forgiven, generated}
 use Rattle.rules.specs.Laws.Bools.{is-false, true-not-false}
 use Rattle.rules.specs.Laws.Trees.{root-no-leaf, leaf-last, last-most}
 use Rattle.rules.specs.Laws.Sums.{length-join, join-within, join-at}

@@ -15,8 +15,8 @@ use Rattle.rules.specs.Tree.{baseShare, baseShares}
 use Rattle.rules.specs.Budget.{shareAt}
 use Rattle.rules.specs.Entries.{started}
 use Rattle.rules.specs.Invariant.{Sound}
-use Rattle.rules.specs.Bench.{Move, left, runTree, runRates, begun, moves, upTo, aged}
-use Rattle.rules.specs.Demand3.Ledger.{Call, after, waiting, owed, accepted, issued, released, repaid, forgiven, generated, charged, saved}
+use Rattle.rules.specs.Bench.Run.{Move, left, runTree, runRates, begun, moves, upTo, aged}
+use Rattle.rules.specs.Ledger.{Call, after, waiting, owed, accepted, issued, released, repaid, forgiven, generated, charged, saved}
 use Rattle.rules.specs.Demand3.Steps.{call-keeps, call-flow, call-books}
 use Rattle.rules.specs.Demand3.Heads.{generated-is-the-growth-of-virtual-time}
 use Rattle.rules.specs.Laws.Units.{ceil-enough}
@@ -105,7 +105,7 @@ module _ (tree : Tree) (rates : Rates) (time : ℕ) (ks : List Call) where
   no-donation-restores-base c e = rw e (reached-is-sound ks (start-gives tree rates time) .no-donation)
 
 -- ---- and none of this is said of nothing: the bench's run begins with a start and has answers of every kind, refusals 4 to 15
--- among them (`run-answers`, `run-reaches` and `limit-answers` in Bench), and each of its states is sound
+-- among them (`run-answers`, `run-reaches` and `limit-answers` in Bench/Run), and each of its states is sound
 left-is-sound : (ms : List Move) {c : Controller} → Sound c → Sound (left ms c)
 left-is-sound [] sound = sound
 left-is-sound (m ∷ ms) sound = left-is-sound ms (call-keeps (m .call) sound)

@@ -6,8 +6,8 @@ use Prim.Native.Nat.{ℕ, _+_, _*_, _≤_}
 use native.Mathlib.Omega.{arith}
 use Rattle.rules.specs.Numbers.{WHOLE}
 use Rattle.rules.specs.Invariant.{Sound}
-use Rattle.rules.specs.Demand3.Ledger.{Call, after, waiting, owed, accepted, issued, released, repaid, forgiven, generated, charged, saved}
-use Rattle.rules.specs.Demand3.Ledger.Call.{submit, tick, plan, vrate}
+use Rattle.rules.specs.Ledger.{Call, after, waiting, owed, accepted, issued, released, repaid, forgiven, generated, charged, saved}
+use Rattle.rules.specs.Ledger.Call.{submit, tick, plan, vrate}
 use Rattle.rules.specs.Laws.Ticks.{ticked-keeps, tick-flow, tick-books}
 use Rattle.rules.specs.Laws.Plans.{planned-keeps, plan-flow, plan-books}
 use Rattle.rules.specs.Laws.Starts.{vrate-keeps, vrate-flow, vrate-books}

@@ -11,7 +11,7 @@ use Rattle.rules.specs.Entries.{noTree, slowest, started, startedBy}
 use Rattle.rules.specs.Trace.{kindOf, readAt}
 use Rattle.rules.specs.Replay.{Step, silent, stopsAt, Called, bioCall, tickCall, planCall, vrateCall, goesOn, inPhase, isStopped, allRoom, beginning, grown, nodeStep, modelStep, startStep, recordStep, readStep, nextPlace, stepped}
 use Rattle.rules.specs.Chunks.{callOf, isCall}
-use Rattle.rules.specs.Demand3.Ledger.{Call, after, generated, charged}
+use Rattle.rules.specs.Ledger.{Call, after, generated, charged}
 use Rattle.rules.specs.Demand3.Sentences.{run, sumOf, never-overspent}
 use Rattle.rules.specs.declared.cost.Rates.{Rates}
 use Rattle.rules.specs.declared.tree.Tree.{Tree}

@@ -13,6 +13,7 @@ use Rattle.rules.specs.Units.{CEIL}
 use Rattle.rules.specs.Cost.{bpsInRange, iopsInRange, ratesInRange, pageCost, baseCost, priceOf, priced, bytesInRange, sectorInRange, flagsInRange, bioInRange, isWrite, isNear, isSequential, endOf, costAt, costOf}
 use Rattle.rules.specs.Refusals.{rateChecks, costChecks}
 use Rattle.rules.specs.Entries.{pricingBy, pricing, costingBy, costing}
+use Rattle.rules.specs.Invariant.{SoundPrice, SoundModel}
 use Rattle.rules.specs.Laws.Bools.{never, true-not-false, and-not-left, and-swap, exactly, exactly-pair, exactly-both, exactly-not, at-most, between}
 use Rattle.rules.specs.Laws.Units.{ceil-enough, ceil-least}
 use Rattle.rules.specs.declared.units.Abs.{Abs}
@@ -85,17 +86,7 @@ bio-in-range b =
       λ w. c .1 (((w .bytesFit, w .bytesWhole), w .sectorFits), w .flagsKnown),
     )
 
--- ---- what a priced model keeps, so that every sum and product over it fits
-pub record SoundPrice (p : Price) : Type 0 where
-  pub pageLeast : 4 ≤ p .page .0
-  pub pageMost : p .page .0 ≤ second
-  pub sequentialMost : p .sequential .0 ≤ second
-  pub randomMost : p .random .0 ≤ second
-
-pub record SoundModel (m : Model) : Type 0 where
-  pub reads : SoundPrice (m .read)
-  pub writes : SoundPrice (m .write)
-
+-- ---- what a priced model keeps
 page-least : (bps : ℕ) → (bpsLeast ≤ bps) × (bps ≤ bpsMost) → 4 ≤ pageCost bps .0
 unfolding pageCost
 page-least bps h =

@@ -13,11 +13,11 @@ use Rattle.rules.specs.Tree.{baseShares}
 use Rattle.rules.specs.Budget.{rowAt, queueAt, shareAt, entered, answerIn, submission, putLeaf, charged, noted, rowAfter, queueAfter, endsDonation, applied, settled, reshared, rebased, wouldBe}
 use Rattle.rules.specs.Refusals.{firstOf, submitChecks}
 use Rattle.rules.specs.Entries.{submittedBy, submitted}
-use Rattle.rules.specs.Invariant.{Sound}
+use Rattle.rules.specs.Invariant.{Sound, SoundModel}
 use Rattle.rules.specs.Laws.Bools.{never, true-not-false, exactly, is-true, and-not-right}
 use Rattle.rules.specs.Laws.Sets.{has-none}
 use Rattle.rules.specs.Laws.Units.{relative-cost-is-enough}
-use Rattle.rules.specs.Laws.Costs.{SoundModel, priced-sound, cost-least}
+use Rattle.rules.specs.Laws.Costs.{priced-sound, cost-least}
 use Rattle.rules.specs.Laws.Answers.{CanPay, CanPayFirst, unforced-is-issued-exactly-when, unforced-waits-exactly-when, forced-is-issued-exactly-when, forced-goes-on-debt-exactly-when}
 use Rattle.rules.specs.Laws.Resharing.{Reweighed, entering-keeps, entering-reweighs, entered-is-active, activeWith, activated-is}
 use Rattle.rules.specs.Laws.Submits.{costIn, Admitted, admitted, reweighed-queue, reweighed-cost}

@@ -11,10 +11,9 @@ use native.Mathlib.Numerals.{add-one}
 use lib.ListN.{length, take, getD, length-append}
 use lib.Seq.{take-suc}
 use borrow.Author.Tests.{ltb-true, ltb-false, lt-ltb, le-ltb}
-use Rattle.rules.specs.Numbers.{leafMost}
 use Rattle.rules.specs.Words.{joinTo, has}
 use Rattle.rules.specs.Refusals.{number}
-use Rattle.rules.specs.Replay.{digitsIn, digits, line, refusalLine, releaseLines, shareLines}
+use Rattle.rules.specs.Replay.{digitsIn, digits, line, refusalLine, releaseLines, shareLines, leafLine, shareLinesTo, shareLinesOf}
 use Rattle.rules.specs.declared.budget.Controller.{Controller}
 use Rattle.rules.specs.declared.refusals.Refusal.{Refusal}
 use Rattle.rules.specs.declared.refusals.Refusal.the-variants.{BadTree, ThinTree, BadRate, NoLeaf, BadBio, TooDear, QueueFull, DebtFull, TimeBack, TimeFar, ClockFull, PlanDue, FewPlaces, NothingPassed, BadVrate, UnknownKind, CutShort, WrongPhase, ShortBuffer}
@@ -159,17 +158,6 @@ releases-next ids i h = rw (add-one i, take-suc ids i 0 h, releases-append, appe
 pub releases-most : (ids : List ℕ) → ((i : ℕ) → getD ids i 0 < 2 ^ 32) → length (releaseLines ids) ≤ 13 * length ids
 releases-most [] h = omega arith
 releases-most (id ∷ ids) h = rw length-append (omega (arith, id-line-most 114 id (h 0), releases-most ids (λ i. h (suc i))))
-
--- ---- the shares of the active leaves, by rising number
-abbrev pub leafLine : ℕ → ℕ → ℕ → List ℕ
-leafLine active n share = cond (has active n) (line 80 (n ∷ share ∷ [])) []
-
--- of the leaves up to m
-unfoldable pub shareLinesTo : ℕ → List ℕ → ℕ → List ℕ
-shareLinesTo active shares m = joinTo (λ n. leafLine active n (getD shares n 0)) m
-
-abbrev pub shareLinesOf : ℕ → List ℕ → List ℕ
-shareLinesOf active shares = shareLinesTo active shares leafMost
 
 -- a state's lines are those of its active set and its shares
 pub share-lines : (c : Controller) → shareLines c ≡ shareLinesOf (c .active) (c .shares)

@@ -2,15 +2,15 @@
 -- Assumes nothing.
 use mathlib.Core.Path.{_≡_, refl}
 use mathlib.Core.Bool.{Bool, true, false, cond}
-use Prim.Native.Nat.{ℕ, _+_, _≤_}
+use Prim.Native.Nat.{ℕ, _≤_}
 use borrow.Author.Tests.{ltb-false, not-false}
-use Rattle.rules.specs.Numbers.{elapsedMost, vtimeMost, sinceMost, vrateLeast, vrateMost}
+use Rattle.rules.specs.Numbers.{vrateLeast, vrateMost}
 use Rattle.rules.specs.Cost.{ratesInRange}
 use Rattle.rules.specs.Tree.{treeFault, isThin}
-use Rattle.rules.specs.Tick.{growth, waitingAll}
 use Rattle.rules.specs.Plan.{vrateInRange}
 use Rattle.rules.specs.Refusals.{firstOf, treeChecks, rateChecks, startChecks, tickChecks, vrateChecks}
 use Rattle.rules.specs.Entries.{started, startedBy}
+use Rattle.rules.specs.Invariant.{TickPasses}
 use Rattle.rules.specs.Laws.TreeVerdicts.{sound-when}
 use Rattle.rules.specs.Laws.Bools.{never, between}
 use Rattle.rules.specs.declared.cost.Rates.{Rates}
@@ -27,13 +27,6 @@ check-passed true x v e = never (cc)
 check-passed false x v e = (refl, e)
 
 -- ---- a tick
-pub record TickPasses (time places : ℕ) (c : Controller) : Type 0 where
-  pub forward : c .clock .time ≤ time
-  pub near : time ≤ c .clock .time + elapsedMost
-  pub vtime : c .clock .vtime .0 + growth (c .clock) time .0 ≤ vtimeMost
-  pub since : c .clock .since .0 + growth (c .clock) time .0 ≤ sinceMost
-  pub room : waitingAll c ≤ places
-
 pub tick-passes : (time places : ℕ) (c : Controller) → firstOf (tickChecks time places c) ≡ Accepted → TickPasses time places c
 unfolding tickChecks
 tick-passes time places c e =

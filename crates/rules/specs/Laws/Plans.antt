@@ -18,14 +18,13 @@ use Rattle.rules.specs.Budget.{emptyRow, rowAt, queueAt, shareAt, withDe
 use Rattle.rules.specs.Plan.{usageAll, isQuiet, forgiveness, forgiven, stays, rested, targetOf, isDonor, isDonation, donated, restarted, quietIn, activeAfter, targetsIn, donorsIn, closed, shared, plan}
 use Rattle.rules.specs.Refusals.{firstOf, planChecks}
 use Rattle.rules.specs.Entries.{plannedBy, planned}
-use Rattle.rules.specs.Invariant.{worthMost, SoundRow, IdleLeaf, Sound}
-use Rattle.rules.specs.Demand3.Ledger.{Call, after, waiting, owed, ifAccepted, forgivenAt, issued, released, repaid, generated, charged, saved}
-use Rattle.rules.specs.Demand3.Ledger
+use Rattle.rules.specs.Invariant.{worthMost, SoundRow, IdleLeaf, Sound, Within}
+use Rattle.rules.specs.Ledger.{Call, after, waiting, owed, ifAccepted, forgivenAt, issued, released, repaid, generated, charged, saved}
+use Rattle.rules.specs.Ledger
 use Rattle.rules.specs.Laws.Bools.{true-not-false, is-false, and-left, and-right, and-not-right, or-neither, or-not-left, or-not-right}
 use Rattle.rules.specs.Laws.Sums.{sum-le, sum-none, sum-bound}
 use Rattle.rules.specs.Laws.Tables.{table-length, table-at, table-every}
 use Rattle.rules.specs.Laws.Sets.{has-none, has-setOf, set-small, setOf-in}
-use Rattle.rules.specs.Laws.Trees.{Within}
 use Rattle.rules.specs.Laws.Answers.{owes-nothing, waits-for-nothing}
 use Rattle.rules.specs.Laws.Resharing.{set-stranger, reshared-row, resharing-saves-nothing, followed, SoundShares, SoundRoles, SoundBooks, books-of, resharing-keeps, active-node, base-shares-are-sound, donated-shares-are-sound}
 use Rattle.rules.specs.declared.budget.Row.{Row}

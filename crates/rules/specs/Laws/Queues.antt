@@ -13,7 +13,7 @@ use Rattle.rules.specs.Words.{tableFrom}
 use Rattle.rules.specs.Units.{abs}
 use Rattle.rules.specs.Budget.{pushed, popped, oldestId, oldestCost}
 use Rattle.rules.specs.Invariant.{SoundQueue}
-use Rattle.rules.specs.Demand3.Ledger.{costWaiting, costOfFirst, idWaiting, idsOfFirst}
+use Rattle.rules.specs.Ledger.{costWaiting, costOfFirst, idWaiting, idsOfFirst}
 use Rattle.rules.specs.Laws.Tables.{set-keeps, tableFrom-last, tableFrom-cong}
 use Rattle.rules.specs.declared.units.Abs.{Abs}
 use Rattle.rules.specs.declared.budget.Queue.{Queue}

@@ -18,14 +18,14 @@ use Rattle.rules.specs.Units.{virt}
 use Rattle.rules.specs.Tree.{leavesOf, baseShare, baseShares, isThin, isLeaf}
 use Rattle.rules.specs.Budget.{emptyRow, emptyQueue, rowAt, queueAt, shareAt, putLeaf, withBudget, rebudget, reshared, rebased, activated, entered}
 use Rattle.rules.specs.Plan.{isTaker, isDonation, sumOver, donated}
-use Rattle.rules.specs.Invariant.{worthMost, PricedModel, SoundClock, SoundRow, SoundQueue, IdleLeaf, Sound}
-use Rattle.rules.specs.Demand3.Ledger.{saved}
+use Rattle.rules.specs.Invariant.{worthMost, PricedModel, SoundClock, SoundRow, SoundQueue, IdleLeaf, Sound, SoundTree, Within}
+use Rattle.rules.specs.Ledger.{saved}
 use Rattle.rules.specs.Laws.Bools.{true-not-false, or-left, or-right, or-cases, is-false}
 use Rattle.rules.specs.Laws.Sums.{sum-le, sum-cong}
 use Rattle.rules.specs.Laws.Tables.{table-length, table-every}
 use Rattle.rules.specs.Laws.Sets.{has-none, has-setOf, setOf-in, set-small}
 use Rattle.rules.specs.Laws.Units.{rescaling-never-raises, rescaling-adds-no-budget}
-use Rattle.rules.specs.Laws.Trees.{SoundTree, Within, leaf-last, last-most}
+use Rattle.rules.specs.Laws.Trees.{leaf-last, last-most}
 use Rattle.rules.specs.Laws.Shares.{no-base-share, base-shares-length, not-thin-keeps-the-floor}
 use Rattle.rules.specs.Laws.Donation.{S, taker-active, is-taker, one-donor, one-taker, donor-gets-its-target, idle-gets-nothing, donation-keeps-the-sum, no-taker-below-base}
 use Rattle.rules.specs.declared.units.Virt.{Virt}

@@ -17,7 +17,7 @@ use Rattle.rules.specs.Cost.{endOf}
 use Rattle.rules.specs.Budget.{popped, oldestId, oldestCost, withBudget, withDebt, charged, noted, owes, waits, fits}
 use Rattle.rules.specs.Tick.{Turn, gained, repayment, repaid, andFirst, releaseIn, released, capped, turn}
 use Rattle.rules.specs.Invariant.{worthMost, SoundQueue, SoundRow}
-use Rattle.rules.specs.Demand3.Ledger.{costOfFirst, idsOfFirst}
+use Rattle.rules.specs.Ledger.{costOfFirst, idsOfFirst}
 use Rattle.rules.specs.Laws.Bools.{and-right, and-not-left, and-not-right}
 use Rattle.rules.specs.Laws.Units.{relative-cost-is-enough, relative-cost-is-least, relative-cost-is-close, repayable-is-within, repayable-is-close}
 use Rattle.rules.specs.Laws.Queues.{popped-sound, popped-costs, popped-ids, oldest-cost-most}

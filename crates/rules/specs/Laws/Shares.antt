@@ -18,9 +18,10 @@ use Rattle.rules.specs.declared.tree.Tree.{Tree}
 use Rattle.rules.specs.Laws.Bools.{true-not-false, is-false}
 use Rattle.rules.specs.Laws.Sums.{sum-le, sum-add, sum-none, sum-past, sum-in, sum-floors, sum-losses, by-parent, any-none}
 use Rattle.rules.specs.Laws.Tables.{table-length, table-at}
-use Rattle.rules.specs.Laws.Trees.{SoundTree, root-no-leaf, Within, leaf-pos, leaf-last, leaf-childless, leaves-are, last-most}
+use Rattle.rules.specs.Laws.Trees.{root-no-leaf, leaf-pos, leaf-last, leaf-childless, leaves-are, last-most}
 use Rattle.rules.specs.Laws.Trees.{active-leaf, active-up, active-more, active-child, root-active, leaf-active, child-in, share-root}
 use Rattle.rules.specs.Laws.Trees.{share-step}
+use Rattle.rules.specs.Invariant.{SoundTree, Within}
 
 -- the share of an active node, and 1 for an active node
 abbrev held : Tree → ℕ → ℕ → ℕ

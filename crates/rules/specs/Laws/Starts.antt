@@ -14,13 +14,13 @@ use Rattle.rules.specs.Budget.{fresh, rowAt, queueAt, shareAt, withClock
 use Rattle.rules.specs.Plan.{withVrate}
 use Rattle.rules.specs.Refusals.{firstOf, startChecks, vrateChecks}
 use Rattle.rules.specs.Entries.{noTree, slowestModel, slowest, started, startedBy, vrated, vratedBy}
-use Rattle.rules.specs.Invariant.{Sound, PricedModel, SoundClock, SoundRow, SoundQueue}
-use Rattle.rules.specs.Demand3.Ledger.{Call, after, costOfFirst, waiting, owed, issued, released, repaid, generated, charged, saved}
+use Rattle.rules.specs.Invariant.{Sound, PricedModel, SoundClock, SoundRow, SoundQueue, SoundTree}
+use Rattle.rules.specs.Ledger.{Call, after, costOfFirst, waiting, owed, issued, released, repaid, generated, charged, saved}
 use Rattle.rules.specs.Laws.Bools.{true-not-false}
 use Rattle.rules.specs.Laws.Sums.{sum-none}
 use Rattle.rules.specs.Laws.Tables.{replicate-every, table-back, table-cong}
 use Rattle.rules.specs.Laws.Sets.{has-none}
-use Rattle.rules.specs.Laws.Trees.{SoundTree, sound-tree}
+use Rattle.rules.specs.Laws.Trees.{sound-tree}
 use Rattle.rules.specs.Laws.Shares.{no-base-share}
 use Rattle.rules.specs.Laws.Passes.{start-passes, vrate-passes}
 use Rattle.rules.specs.declared.cost.Rates.{Rates}

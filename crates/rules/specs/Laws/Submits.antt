@@ -20,7 +20,7 @@ use Rattle.rules.specs.Budget.{emptyRow, emptyQueue, rowAt, queueAt, sha
 use Rattle.rules.specs.Refusals.{firstOf, isWait, isDebt, costChecks, roomChecks, submitChecks}
 use Rattle.rules.specs.Entries.{submittedBy, submitted}
 use Rattle.rules.specs.Invariant.{SoundRow, SoundQueue, IdleLeaf, Sound}
-use Rattle.rules.specs.Demand3.Ledger.{Call, after, costOfFirst, waiting, owed, ifTaken, ifIssued, ifWaits, ifOnDebt, costOn, accepted, issued, released, repaid, charged, generated, saved}
+use Rattle.rules.specs.Ledger.{Call, after, costOfFirst, waiting, owed, ifTaken, ifIssued, ifWaits, ifOnDebt, costOn, accepted, issued, released, repaid, charged, generated, saved}
 use Rattle.rules.specs.Laws.Bools.{true-not-false}
 use Rattle.rules.specs.Laws.Sums.{sum-le, sum-add, sum-scale}
 use Rattle.rules.specs.Laws.Sets.{has-none}

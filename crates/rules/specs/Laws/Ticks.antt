@@ -13,12 +13,12 @@ use Rattle.rules.specs.Budget.{rowAt, queueAt, shareAt, emptyRow, emptyQ
 use Rattle.rules.specs.Tick.{Turn, growth, advanced, gained, repayment, turn, turnOf, releases, tick, waitingAll}
 use Rattle.rules.specs.Refusals.{firstOf, tickChecks}
 use Rattle.rules.specs.Entries.{ticked, tickedBy}
-use Rattle.rules.specs.Invariant.{worthMost, Sound, SoundClock, SoundRow, SoundQueue, IdleLeaf, FreeDonor}
-use Rattle.rules.specs.Demand3.Ledger.{Call, after, costOfFirst, idsOfFirst, waiting, owed, ifAccepted, releasedAt, repaidAt, issued, released, repaid, generated, charged, saved}
+use Rattle.rules.specs.Invariant.{worthMost, Sound, SoundClock, SoundRow, SoundQueue, IdleLeaf, FreeDonor, TickPasses}
+use Rattle.rules.specs.Ledger.{Call, after, costOfFirst, idsOfFirst, waiting, owed, ifAccepted, releasedAt, repaidAt, issued, released, repaid, generated, charged, saved}
 use Rattle.rules.specs.Laws.Sums.{length-join, sum-cong, sum-le, sum-add, sum-none, sum-scale}
 use Rattle.rules.specs.Laws.Tables.{table-length, table-every}
 use Rattle.rules.specs.Laws.Rows.{keepAll, turn-keeps, turn-row-sound, turn-flow, repayment-if-owing}
-use Rattle.rules.specs.Laws.Passes.{TickPasses, tick-passes}
+use Rattle.rules.specs.Laws.Passes.{tick-passes}
 use Rattle.rules.specs.Laws.States.{past-is-idle, row-past, queue-past, shares-at-most-whole, share-most, share-pos}
 use Rattle.rules.specs.declared.units.Virt.{Virt}
 use Rattle.rules.specs.declared.budget.Row.{Row}

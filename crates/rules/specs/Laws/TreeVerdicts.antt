@@ -15,7 +15,8 @@ use Rattle.rules.specs.declared.tree.Fault.the-variants.{Sound, Count, P
 use Rattle.rules.specs.declared.refusals.Refusal.the-variants.{BadTree, ThinTree}
 use Rattle.rules.specs.declared.refusals.Verdict.the-variants.{Accepted, Refused}
 use Rattle.rules.specs.Laws.Bools.{never, true-not-false, is-true}
-use Rattle.rules.specs.Laws.Trees.{SoundTree, count-range, sound-tree, tree-sound}
+use Rattle.rules.specs.Laws.Trees.{count-range, sound-tree, tree-sound}
+use Rattle.rules.specs.Invariant.{SoundTree}
 
 -- ---- a fault is anything but Sound
 pub sound-when : (f : Fault) → isFault f ≡ false → f ≡ Sound

@@ -17,20 +17,13 @@ use Rattle.rules.specs.Words.{anyTo, has}
 use Rattle.rules.specs.Units.{FLOOR}
 use Rattle.rules.specs.Tree.{parent, weight, last, levelIn, level, countInRange, weightInRange, nodeFault, earlierFault, faultTo, treeFault}
 use Rattle.rules.specs.Tree.{isLeaf, leavesOf, onWayIn, onWay, isActive, childSum, shareIn, shareOf}
+use Rattle.rules.specs.Invariant.{SoundTree, Within}
 use Rattle.rules.specs.declared.tree.Tree.{Tree}
 use Rattle.rules.specs.declared.tree.Fault.{Fault}
 use Rattle.rules.specs.declared.tree.Fault.the-variants.{Sound, Count, Parent, Weight, Level}
 use Rattle.rules.specs.Laws.Bools.{never, true-not-false, is-false, same-test, and-left, and-right, and-both, or-left, or-right, or-cases, between}
 use Rattle.rules.specs.Laws.Sums.{sum-in, any-in, any-out, any-none, none-any}
 use Rattle.rules.specs.Laws.Sets.{has-setOf, setOf-past}
-
--- ---- a sound tree: what every node but the root keeps. It may have too few nodes: the tree with none is sound
-pub record SoundTree (t : Tree) : Type 0 where
-  pub most : t .count ≤ nodesMost
-  pub up : (n : ℕ) → 0 < n → n ≤ last t → parent t n < n
-  pub light : (n : ℕ) → 0 < n → n ≤ last t → weightLeast ≤ weight t n
-  pub heavy : (n : ℕ) → 0 < n → n ≤ last t → weight t n ≤ weightMost
-  pub shallow : (n : ℕ) → 0 < n → n ≤ last t → level t n ≤ levelMost
 
 -- what the test of one node says
 pub record SoundNode (t : Tree) (n : ℕ) : Type 0 where
@@ -185,10 +178,6 @@ pub childless-leaf : (t : Tree) (n : ℕ) → 0 < n → n ≤ last t → ((k : �
 unfolding isLeaf
 childless-leaf t n p q h =
     rw (lt-ltb 0 n p, le-leb n (last t) q, none-any (λ k. eqb (parent t k) n) (last t) (λ k a b. ne-eqb (parent t k) n (h k a b)))
-
--- only leaves are in the set
-abbrev pub Within : Tree → ℕ → Type 0
-Within t active = (n : ℕ) → has active n ≡ true → isLeaf t n ≡ true
 
 pub no-root-within : (t : Tree) (active : ℕ) → Within t active → has active 0 ≡ false
 no-root-within t active within = is-false (has active 0) (λ e. true-not-false (within 0 e) (root-no-leaf t))

@@ -10,11 +10,12 @@ use Rattle.rules.specs.declared.tree.Tree.{Tree}
 use Rattle.rules.specs.declared.tree.Fault.{Fault}
 use Rattle.rules.specs.declared.refusals.Refusal.the-variants.{BadTree}
 use Rattle.rules.specs.declared.refusals.Verdict.the-variants.{Refused}
-use Rattle.rules.specs.Laws.Trees.{SoundTree, sound-tree}
+use Rattle.rules.specs.Laws.Trees.{sound-tree}
 use Rattle.rules.specs.Laws.Refusals.{check-on-paper}
 use Rattle.rules.specs.Laws.TreeVerdicts.{sound-when, bad-tree, thin-tree, fine-tree}
 use Rattle.tree.proofs.check.Statement.{statement}
 use Rattle.tree.proofs.check.Tie as tie
+use Rattle.rules.specs.Invariant.{SoundTree}
 
 -- what was found, by the tree itself
 module _ (t : Tree) {found : Fault} (e : found ≡ treeFault t) {b : Bool} (i : b ≡ isFault found) where

@@ -9,7 +9,7 @@ use borrow.Author.Needs.{needs}
 use denote.Ref.{now}
 use Rattle.rules.specs.Replay.{beginning, replay}
 use Rattle.rules.specs.Chunks.{fed, wholePart, printedIf, whole}
-use Rattle.rules.specs.Laws.Buffers.{Written}
+use Rattle.rules.specs.Buffers.{Written}
 use Rattle.rules.specs.Laws.Chunks.{over-is-whole}
 use Rattle.rules.specs.Laws.Bools.{never}
 use Rattle.rules.specs.declared.replay.Replay.{Replay}

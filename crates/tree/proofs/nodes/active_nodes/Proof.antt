@@ -7,7 +7,7 @@ use native.Mathlib.Omega.{arith}
 use borrow.Author.Needs.{needs}
 use lib.ListN.{getD}
 use Rattle.rules.specs.Words.{setOf}
-use Rattle.rules.specs.Laws.Trees.{SoundTree, Within}
+use Rattle.rules.specs.Invariant.{SoundTree, Within}
 use Rattle.tree.specs.View.{treeOf}
 use Rattle.tree.proofs.View.{parent-at, last-at, sound-climbs}
 use Rattle.tree.proofs.Reach.{reached, pass-starts, pass-adds, pass-skips, pass-ends}
