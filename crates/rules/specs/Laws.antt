@@ -24,6 +24,7 @@ pub mod Answers
 pub mod Verdicts
 pub mod Decisions
 pub mod Refused
+pub mod Settings
 pub mod Trace
 pub mod Buffers
 pub mod Lines

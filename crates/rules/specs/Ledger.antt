@@ -19,24 +19,32 @@ use Rattle.rules.specs.declared.units.Virt.{Virt}
 use Rattle.rules.specs.declared.cost.Bio.{Bio}
 use Rattle.rules.specs.declared.budget.Queue.{Queue}
 use Rattle.rules.specs.declared.budget.Controller.{Controller}
+use Rattle.rules.specs.declared.budget.Outcome.{Outcome}
 use Rattle.rules.specs.declared.refusals.Verdict.{Verdict}
 use Rattle.rules.specs.declared.refusals.Verdict.the-variants.{Accepted, Refused}
 use Rattle.rules.specs.declared.refusals.Answer.{Answer}
 use Rattle.rules.specs.declared.refusals.Answer.the-variants.{Issued, Waits, OnDebt, Refused as Declined}
+
+-- ---- a call that sets one thing and does nothing else: what it answers, and the state that it leaves
+pub data Setting : Type 0 where
+  vrate : ℕ → Setting
+
+abbrev pub setBy : Setting → Controller → Outcome
+setBy (vrate v) c = vrated v c
 
 -- ---- the calls, with any arguments; a tick has the contents of the buffer that it is lent
 pub data Call : Type 0 where
   submit : Bio → Call
   tick : ℕ → List ℕ → Call
   plan : Call
-  vrate : ℕ → Call
+  set : Setting → Call
 
 -- the state that a call leaves: what the entries' contracts say
 abbrev pub after : Call → Controller → Controller
 after (submit b) c = submitted b c .state
 after (tick time lent) c = ticked time lent c .state
 after plan c = planned c .state
-after (vrate v) c = vrated v c .state
+after (set x) c = setBy x c .state
 
 -- ---- what a leaf waits for: the cost of the bio in place i of its queue, and of the first k
 unfoldable pub costWaiting : Queue → ℕ → ℕ
@@ -108,37 +116,37 @@ unfoldable pub accepted : Call → Controller → ℕ → ℕ
 accepted (submit b) c n = ifTaken (submitted b c .answer) (costOn n b c)
 accepted (tick time lent) c n = 0
 accepted plan c n = 0
-accepted (vrate v) c n = 0
+accepted (set x) c n = 0
 
 unfoldable pub issued : Call → Controller → ℕ → ℕ
 issued (submit b) c n = ifIssued (submitted b c .answer) (costOn n b c)
 issued (tick time lent) c n = 0
 issued plan c n = 0
-issued (vrate v) c n = 0
+issued (set x) c n = 0
 
 unfoldable pub released : Call → Controller → ℕ → ℕ
 released (submit b) c n = 0
 released (tick time lent) c n = ifAccepted (firstOf (tickChecks time (length lent) c)) (releasedAt (growth (c .clock) time) c n)
 released plan c n = 0
-released (vrate v) c n = 0
+released (set x) c n = 0
 
 unfoldable pub repaid : Call → Controller → ℕ → ℕ
 repaid (submit b) c n = 0
 repaid (tick time lent) c n = ifAccepted (firstOf (tickChecks time (length lent) c)) (repaidAt (growth (c .clock) time) c n)
 repaid plan c n = 0
-repaid (vrate v) c n = 0
+repaid (set x) c n = 0
 
 unfoldable pub forgiven : Call → Controller → ℕ → ℕ
 forgiven (submit b) c n = 0
 forgiven (tick time lent) c n = 0
 forgiven plan c n = ifAccepted (firstOf (planChecks c)) (forgivenAt c n)
-forgiven (vrate v) c n = 0
+forgiven (set x) c n = 0
 
 unfoldable pub generated : Call → Controller → ℕ
 generated (submit b) c = 0
 generated (tick time lent) c = ifAccepted (firstOf (tickChecks time (length lent) c)) (growth (c .clock) time .0)
 generated plan c = 0
-generated (vrate v) c = 0
+generated (set x) c = 0
 
 -- ---- what a call charges, and what all leaves have saved, in WHOLEths
 unfoldable pub charged : Call → Controller → ℕ

@@ -19,10 +19,10 @@ use Rattle.rules.specs.Tree.{isLeaf}
 use Rattle.rules.specs.Budget.{rowAt, queueAt, shareAt, popped, oldestCost, reshared, rebased, activated, entered, endsDonation, applied, settled, submission, wouldBe}
 use Rattle.rules.specs.Tick.{growth, advanced, gained, repayment, repaid as repaying, turn, turnOf, releases, lentAfter, tick as ticking}
 use Rattle.rules.specs.Plan.{usageAll, isDonation, donated, closed, shared, plan as planning}
-use Rattle.rules.specs.Refusals.{firstOf, submitChecks, tickChecks, planChecks, vrateChecks}
-use Rattle.rules.specs.Entries.{submitted, submittedBy, ticked, tickedBy, lentOf, lentBy, planned, plannedBy, vrated, vratedBy}
+use Rattle.rules.specs.Refusals.{firstOf, submitChecks, tickChecks, planChecks}
+use Rattle.rules.specs.Entries.{submitted, submittedBy, ticked, tickedBy, lentOf, lentBy, planned, plannedBy}
 use Rattle.rules.specs.Invariant.{Sound}
-use Rattle.rules.specs.Ledger.{Call, after, costWaiting, costOfFirst, idWaiting, idsOfFirst, waiting, owed, ifTaken, ifIssued, ifWaits, ifOnDebt, costOn, ifAccepted, releasedAt, repaidAt, accepted, issued, released, repaid, forgiven, generated}
+use Rattle.rules.specs.Ledger.{setBy, Call, after, costWaiting, costOfFirst, idWaiting, idsOfFirst, waiting, owed, ifTaken, ifIssued, ifWaits, ifOnDebt, costOn, ifAccepted, releasedAt, repaidAt, accepted, issued, released, repaid, forgiven, generated}
 use Rattle.rules.specs.Laws.Bools.{is-false, true-not-false}
 use Rattle.rules.specs.Laws.Trees.{root-no-leaf, leaf-last, last-most}
 use Rattle.rules.specs.Laws.Sums.{length-join, join-within, join-at}
@@ -33,7 +33,8 @@ use Rattle.rules.specs.Laws.States.{share-pos}
 use Rattle.rules.specs.Laws.Ticks.{active-turn, active-repays, idle-repays, idle-releases, leaf-tick, tick-row, tick-queue, tick-releases-fit}
 use Rattle.rules.specs.Laws.Plans.{half-of-a-debt-is-forgiven-when-quiet, nothing-is-forgiven-when-busy}
 use Rattle.rules.specs.Laws.Submits.{costIn, cost-here, cost-elsewhere, none-issued as issues-none, submit-waiting, submit-owed}
-use Rattle.rules.specs.Laws.Refused.{refusal-4-exactly-when, submit-refuses-exactly-when, tick-refuses-exactly-when, plan-refuses, a-refused-bio-changes-nothing, a-refused-tick-changes-nothing, a-refused-plan-changes-nothing, a-refused-vrate-changes-nothing}
+use Rattle.rules.specs.Laws.Refused.{refusal-4-exactly-when, submit-refuses-exactly-when, tick-refuses-exactly-when, plan-refuses, a-refused-bio-changes-nothing, a-refused-tick-changes-nothing, a-refused-plan-changes-nothing}
+use Rattle.rules.specs.Laws.Settings.{sets-alone, a-refused-setting-changes-nothing}
 use Rattle.rules.specs.declared.units.Virt.{Virt}
 use Rattle.rules.specs.declared.cost.Bio.{Bio}
 use Rattle.rules.specs.declared.budget.Row.{Row}
@@ -241,7 +242,7 @@ module _ {c : Controller} (sound : Sound c) (n : ℕ) (other : isLeaf (c .tree) 
         nothing-if-accepted (firstOf (tickChecks time (length lent) c)) _ (idle-repays (growth (c .clock) time) c n idle-there),
       )
   only-leaves-are-charged Call.plan = omega arith
-  only-leaves-are-charged (Call.vrate v) = omega arith
+  only-leaves-are-charged (Call.set x) = omega arith
 
 pub no-node-outside-the-sum-is-charged : (k : Call) {c : Controller} → Sound c → (n : ℕ) → (n ≡ 0) ⊎ (leafMost < n)
     → issued k c n + released k c n + repaid k c n ≡ 0
@@ -287,7 +288,7 @@ planning-keeps-virtual-time c Accepted = ap (λ (k : Clock). k .vtime .0) (shari
 planning-keeps-virtual-time c (Refused x) = refl
 
 pub generated-is-the-growth-of-virtual-time : (k : Call) (c : Controller) → generated k c + c .clock .vtime .0 ≡ after k c .clock .vtime .0
-unfolding generated submitted ticked tickedBy ticking advanced planned vrated vratedBy
+unfolding generated submitted ticked tickedBy ticking advanced planned
 generated-is-the-growth-of-virtual-time (Call.submit b) c =
     omega (arith, ap (λ (k : Clock). k .vtime .0) (submitting-keeps-the-clock b c (firstOf (submitChecks b c))))
 generated-is-the-growth-of-virtual-time (Call.tick time lent) c = go (firstOf (tickChecks time (length lent) c))
@@ -296,11 +297,7 @@ generated-is-the-growth-of-virtual-time (Call.tick time lent) c = go (firstOf (t
     go Accepted = omega arith
     go (Refused x) = omega arith
 generated-is-the-growth-of-virtual-time Call.plan c = omega (arith, planning-keeps-virtual-time c (firstOf (planChecks c)))
-generated-is-the-growth-of-virtual-time (Call.vrate v) c = go (firstOf (vrateChecks v))
-  where
-    go : (t : Verdict) → 0 + c .clock .vtime .0 ≡ vratedBy t v c .state .clock .vtime .0
-    go Accepted = omega arith
-    go (Refused x) = omega arith
+generated-is-the-growth-of-virtual-time (Call.set x) c = omega (arith, sets-alone x c .vtime)
 
 -- ---- a refused call: nothing in any head, and the state stays; the buffer too, by `a-refused-tick-changes-nothing`
 -- the answer of the call is this refusal
@@ -308,7 +305,7 @@ abbrev pub Refuses : Call → Controller → Refusal → Type 0
 Refuses (Call.submit b) c x = submitted b c .answer ≡ Declined x
 Refuses (Call.tick time lent) c x = ticked time lent c .answer ≡ Unticked x
 Refuses Call.plan c x = planned c .answer ≡ Refused x
-Refuses (Call.vrate v) c x = vrated v c .answer ≡ Refused x
+Refuses (Call.set s) c x = setBy s c .answer ≡ Refused x
 
 pub record CountsNothing (k : Call) (c : Controller) : Type 0 where
   pub state-stays : after k c ≡ c
@@ -354,9 +351,9 @@ a-refused-call-counts-nothing Call.plan c x e =
       none-forgiven = λ n. rw v;
       none-generated = refl;
     }
-a-refused-call-counts-nothing (Call.vrate w) c x e =
+a-refused-call-counts-nothing (Call.set s) c x e =
     record {
-      state-stays = a-refused-vrate-changes-nothing w c x e;
+      state-stays = a-refused-setting-changes-nothing s c x e;
       none-accepted = λ n. refl;
       none-issued = λ n. refl;
       none-released = λ n. refl;

@@ -7,10 +7,10 @@ use native.Mathlib.Omega.{arith}
 use Rattle.rules.specs.Numbers.{WHOLE}
 use Rattle.rules.specs.Invariant.{Sound}
 use Rattle.rules.specs.Ledger.{Call, after, waiting, owed, accepted, issued, released, repaid, forgiven, generated, charged, saved}
-use Rattle.rules.specs.Ledger.Call.{submit, tick, plan, vrate}
+use Rattle.rules.specs.Ledger.Call.{submit, tick, plan, set}
 use Rattle.rules.specs.Laws.Ticks.{ticked-keeps, tick-flow, tick-books}
 use Rattle.rules.specs.Laws.Plans.{planned-keeps, plan-flow, plan-books}
-use Rattle.rules.specs.Laws.Starts.{vrate-keeps, vrate-flow, vrate-books}
+use Rattle.rules.specs.Laws.Settings.{set-keeps, set-flow, set-books}
 use Rattle.rules.specs.Laws.Submits.{submit-keeps, submit-flow, submit-books}
 use Rattle.rules.specs.declared.budget.Controller.{Controller}
 
@@ -18,14 +18,14 @@ pub call-keeps : (k : Call) {c : Controller} → Sound c → Sound (after k c)
 call-keeps (submit b) sound = submit-keeps sound b
 call-keeps (tick time lent) sound = ticked-keeps sound time lent
 call-keeps plan sound = planned-keeps sound
-call-keeps (vrate v) sound = vrate-keeps sound v
+call-keeps (set x) sound = set-keeps x sound
 
 -- in WHOLEths: what the call charges and what is saved after it, against what was saved and what it generates
 pub call-flow : (k : Call) {c : Controller} → Sound c → charged k c * WHOLE + saved (after k c) ≤ saved c + generated k c * WHOLE
 call-flow (submit b) sound = submit-flow sound b
 call-flow (tick time lent) sound = tick-flow sound time lent
 call-flow plan sound = plan-flow sound
-call-flow (vrate v) {c} sound = vrate-flow c v
+call-flow (set x) {c} sound = set-flow x c
 
 pub call-books : (k : Call) {c : Controller} → Sound c → (n : ℕ)
     → waiting (after k c) n + owed (after k c) n + issued k c n + released k c n + repaid k c n + forgiven k c n
@@ -34,4 +34,4 @@ unfolding issued released repaid forgiven accepted
 call-books (submit b) sound n = omega (arith, submit-books sound b n)
 call-books (tick time lent) sound n = omega (arith, tick-books sound time lent n)
 call-books plan sound n = omega (arith, plan-books sound n)
-call-books (vrate v) {c} sound n = omega (arith, vrate-books c v n)
+call-books (set x) {c} sound n = omega (arith, set-books x c n)

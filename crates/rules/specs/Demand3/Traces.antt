@@ -11,7 +11,7 @@ use Rattle.rules.specs.Entries.{noTree, slowest, started, startedBy}
 use Rattle.rules.specs.Trace.{kindOf, readAt}
 use Rattle.rules.specs.Replay.{Step, silent, stopsAt, Called, bioCall, tickCall, planCall, vrateCall, goesOn, inPhase, isStopped, allRoom, beginning, grown, nodeStep, modelStep, startStep, recordStep, readStep, nextPlace, stepped}
 use Rattle.rules.specs.Chunks.{callOf, isCall}
-use Rattle.rules.specs.Ledger.{Call, after, generated, charged}
+use Rattle.rules.specs.Ledger.{Setting, Call, after, generated, charged}
 use Rattle.rules.specs.Demand3.Sentences.{run, sumOf, never-overspent}
 use Rattle.rules.specs.declared.cost.Rates.{Rates}
 use Rattle.rules.specs.declared.tree.Tree.{Tree}
@@ -37,7 +37,7 @@ callsIn (Found (Start time) next) = []
 callsIn (Found (BioOf b) next) = Call.submit b ∷ []
 callsIn (Found (Tick time) next) = Call.tick time allRoom ∷ []
 callsIn (Found Plan next) = Call.plan ∷ []
-callsIn (Found (Vrate v) next) = Call.vrate v ∷ []
+callsIn (Found (Vrate v) next) = Call.set (Setting.vrate v) ∷ []
 callsIn End = []
 callsIn (Unread x) = []
 
@@ -159,7 +159,7 @@ record-reaches (Start time) s h = by-start (started (s .tree) (s .rates) time .a
 record-reaches (BioOf b) s h = one-more (Call.submit b) h
 record-reaches (Tick time) s h = one-more (Call.tick time allRoom) h
 record-reaches Plan s h = one-more Call.plan h
-record-reaches (Vrate v) s h = one-more (Call.vrate v) h
+record-reaches (Vrate v) s h = one-more (Call.set (Setting.vrate v)) h
 
 step-reaches : (read : Read) (s : Replay) → Reached (s .state) → Reached (stepped read s .replay .state)
 unfolding stepped readStep

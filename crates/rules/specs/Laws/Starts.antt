@@ -1,21 +1,21 @@
--- Start gives a sound state, accepted or refused; another clock keeps one, and vrate moves nothing.
+-- Start gives a sound state, accepted or refused; another clock keeps one.
 -- Assumes nothing.
 use mathlib.Core.Path.{_≡_, refl, sym, ap, _∙_}
 use mathlib.Core.Bool.{true, false}
-use Prim.Native.Nat.{ℕ, _+_, _*_, _≤_}
+use Prim.Native.Nat.{ℕ, _+_, _*_}
 use native.Mathlib.Omega.{arith}
 use lib.ListN.{getD, replicate, length-replicate}
-use Rattle.rules.specs.Numbers.{WHOLE, nodesMost, leafMost, queueRoom}
-use Rattle.rules.specs.Words.{sumTo, anyTo, has, noNode}
+use Rattle.rules.specs.Numbers.{nodesMost, leafMost, queueRoom}
+use Rattle.rules.specs.Words.{anyTo, has, noNode}
 use Rattle.rules.specs.Units.{abs}
 use Rattle.rules.specs.Cost.{ratesInRange, bpsInRange, iopsInRange, priced}
 use Rattle.rules.specs.Tree.{last, baseShare, baseShares, isThin}
-use Rattle.rules.specs.Budget.{fresh, rowAt, queueAt, shareAt, withClock, emptyRow, emptyQueue}
+use Rattle.rules.specs.Budget.{fresh, rowAt, queueAt, shareAt, withClock, emptyRow, emptyQueue, withRate}
 use Rattle.rules.specs.Plan.{withVrate}
 use Rattle.rules.specs.Refusals.{firstOf, startChecks, vrateChecks}
 use Rattle.rules.specs.Entries.{noTree, slowestModel, slowest, started, startedBy, vrated, vratedBy}
 use Rattle.rules.specs.Invariant.{Sound, PricedModel, SoundClock, SoundRow, SoundQueue, SoundTree}
-use Rattle.rules.specs.Ledger.{Call, after, costOfFirst, waiting, owed, issued, released, repaid, generated, charged, saved}
+use Rattle.rules.specs.Ledger.{costOfFirst, waiting, owed, saved}
 use Rattle.rules.specs.Laws.Bools.{true-not-false}
 use Rattle.rules.specs.Laws.Sums.{sum-none}
 use Rattle.rules.specs.Laws.Tables.{replicate-every, table-back, table-cong}
@@ -194,7 +194,7 @@ clock-keeps {c} sound k clock e = record {
 pub with-vrate-keeps : {c : Controller} → Sound c → (v : ℕ) → firstOf (vrateChecks v) ≡ Accepted → Sound (withVrate v c)
 with-vrate-keeps {c} sound v e =
     let w = vrate-passes v e in
-    clock-keeps sound (record { time = c .clock .time; vtime = c .clock .vtime; since = c .clock .since; vrate = v })
+    clock-keeps sound (withRate v (c .clock))
     (record {
       vrate-least = w .0;
       vrate-most = w .1;
@@ -210,20 +210,3 @@ vrate-keeps {c} sound v = go (firstOf (vrateChecks v)) refl
     go : (w : Verdict) → firstOf (vrateChecks v) ≡ w → Sound (vratedBy w v c .state)
     go Accepted e = with-vrate-keeps sound v e
     go (Refused x) e = sound
-
-module _ (c : Controller) (v : ℕ) where
-  pub vrate-flow : charged (Call.vrate v) c * WHOLE + saved (after (Call.vrate v) c) ≤ saved c + generated (Call.vrate v) c * WHOLE
-  unfolding charged issued released repaid generated saved vrated vratedBy
-  vrate-flow = go (firstOf (vrateChecks v))
-    where
-      go : (w : Verdict) → sumTo (λ n. 0 + 0 + 0) leafMost * WHOLE + saved (vratedBy w v c .state) ≤ saved c + 0 * WHOLE
-      go Accepted = omega (arith, sum-none (λ n. 0 + 0 + 0) leafMost (λ n p l. refl))
-      go (Refused x) = omega (arith, sum-none (λ n. 0 + 0 + 0) leafMost (λ n p l. refl))
-
-  pub vrate-books : (n : ℕ) → waiting (after (Call.vrate v) c) n + owed (after (Call.vrate v) c) n ≡ waiting c n + owed c n
-  unfolding vrated vratedBy
-  vrate-books n = go (firstOf (vrateChecks v))
-    where
-      go : (w : Verdict) → waiting (vratedBy w v c .state) n + owed (vratedBy w v c .state) n ≡ waiting c n + owed c n
-      go Accepted = refl
-      go (Refused x) = refl
