@@ -10,7 +10,7 @@ use Rattle.rules.specs.Refusals.{firstOf, tickChecks}
 use Rattle.rules.specs.Tick.{growth, releases}
 use Rattle.rules.specs.Replay.{refusalLine, answerLine, releaseLines, tickLines, planLines, verdictLines, allRoom, shareLinesOf}
 use Rattle.rules.specs.Chunks.{callOf, calling}
-use Rattle.rules.specs.Entries.{submitted, ticked, tickedBy, lentOf, planned, vrated}
+use Rattle.rules.specs.Entries.{submitted, ticked, tickedBy, lentOf, planned, toVrate, setBy}
 use Rattle.rules.specs.Invariant.{Sound}
 use Rattle.rules.specs.Buffers.{Written}
 use Rattle.rules.specs.Laws.Lines.{share-lines}
@@ -31,7 +31,8 @@ use Rattle.rules.specs.declared.trace.Record.the-variants.{Bio as BioOf, Tick, 
 use Rattle.rules.specs.declared.trace.Read.{Read}
 use Rattle.rules.specs.declared.trace.Read.the-variants.{Found}
 use Rattle.rules.specs.declared.replay.Call.{Call}
-use Rattle.rules.specs.declared.replay.Call.the-variants.{Bio as CallBio, Tick as CallTick, Plan as CallPlan, Vrate as CallVrate}
+use Rattle.rules.specs.declared.replay.Call.the-variants.{Bio as CallBio, Tick as CallTick, Plan as CallPlan, Set as CallSet}
+use Rattle.rules.specs.declared.replay.Setting.{Setting}
 use Rattle.calls.specs.Calls.{CanPrint, planLinesOf}
 
 -- ---- an accepted tick releases no more than the lent buffer has places
@@ -64,7 +65,7 @@ module _ {read : Read} {r : Record} {next : ℕ} (e : read ≡ Found r next) whe
   unfolding callOf
   asks-tick time f = rw (e, f)
 
-  pub asks-vrate : (v : ℕ) → r ≡ Vrate v → CallVrate v ≡ callOf read
+  pub asks-vrate : (v : ℕ) → r ≡ Vrate v → CallSet (toVrate v) ≡ callOf read
   unfolding callOf
   asks-vrate v f = rw (e, f)
 
@@ -118,7 +119,7 @@ module _ (c : Controller) {r : ℕ} (o₀ o : List ℕ) where
   unfolding calling
   plan-answered {done} e w = rw e (rw e at (rw plan-lines at w), refl)
 
-  pub vrate-answered : (v : ℕ) {done : Outcome} → done ≡ vrated v c → Written (verdictLines (done .answer)) r o₀ o
-      → Answered (CallVrate v) c r o₀ o (done .state)
+  pub set-answered : (x : Setting) {done : Outcome} → done ≡ setBy x c → Written (verdictLines (done .answer)) r o₀ o
+      → Answered (CallSet x) c r o₀ o (done .state)
   unfolding calling
-  vrate-answered v e w = rw e (rw e at w, refl)
+  set-answered x e w = rw e (rw e at w, refl)

@@ -21,7 +21,8 @@ use Rattle.rules.specs.declared.cost.Bio.{Bio}
 use Rattle.rules.specs.declared.budget.Controller.{Controller}
 use Rattle.rules.specs.declared.trace.Read.{Read}
 use Rattle.rules.specs.declared.replay.Call.{Call}
-use Rattle.rules.specs.declared.replay.Call.the-variants.{Bio as CallBio, Tick as CallTick, Plan as CallPlan, Vrate as CallVrate, None as NoCall}
+use Rattle.rules.specs.declared.replay.Call.the-variants.{Bio as CallBio, Tick as CallTick, Plan as CallPlan, Set as CallSet, None as NoCall}
+use Rattle.rules.specs.declared.replay.Setting.{Setting}
 use Rattle.calls.specs.Calls.{RanAs}
 use Rattle.calls.proofs.Answered.{Answered}
 use Rattle.rules.specs.Buffers.{Written, Stands, restOf, putBack}
@@ -43,9 +44,9 @@ pub plan-is-call : isCall CallPlan ≡ true
 unfolding isCall
 plan-is-call = refl
 
-pub vrate-is-call : (v : ℕ) → isCall (CallVrate v) ≡ true
+pub set-is-call : (x : Setting) → isCall (CallSet x) ≡ true
 unfolding isCall
-vrate-is-call v = refl
+set-is-call x = refl
 
 -- ---- one turn of a run
 neither : (b : Bool) → (b && false) ≡ false

@@ -16,6 +16,7 @@ use rules::refusals::Verdict;
 use rules::replay::Call;
 use rules::replay::Phase;
 use rules::replay::Ran;
+use rules::replay::Setting;
 use rules::trace::Read;
 use rules::trace::Record;
 
@@ -36,7 +37,7 @@ fn call_of(read: Read) -> Call
             Record::Bio(bio) => Call::Bio(bio),
             Record::Tick(time) => Call::Tick(time),
             Record::Plan => Call::Plan,
-            Record::Vrate(v) => Call::Vrate(v),
+            Record::Vrate(v) => Call::Set(Setting { vrate: v }),
         },
         Read::End => Call::None,
         Read::Refused(_) => Call::None,
@@ -50,7 +51,7 @@ fn is_call(call: Call) -> bool
         Call::Bio(_) => true,
         Call::Tick(_) => true,
         Call::Plan => true,
-        Call::Vrate(_) => true,
+        Call::Set(_) => true,
         Call::None => false,
     }
 }
@@ -147,8 +148,8 @@ pub fn run(mut c: Controller, trace: &[u8], place: usize, most: usize, out: &mut
                 c = done.state;
                 count += put_planned(answer, c.active, &c.shares, &mut out[count..]);
             }
-            Call::Vrate(v) => {
-                let done = controller::start::vrate(c, v);
+            Call::Set(setting) => {
+                let done = controller::start::vrate(c, setting.vrate);
                 let answer = done.answer;
                 count += lines::put_verdict(answer, &mut out[count..]);
                 c = done.state;

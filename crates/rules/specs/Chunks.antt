@@ -8,7 +8,8 @@ use lib.ListN.{length, drop}
 use Rattle.rules.specs.Numbers.{lineRoom}
 use Rattle.rules.specs.Refusals.{number}
 use Rattle.rules.specs.Trace.{readAt}
-use Rattle.rules.specs.Replay.{Called, bioCall, tickCall, planCall, vrateCall, isStopped, stepped, nextPlace, beginning}
+use Rattle.rules.specs.Entries.{toVrate}
+use Rattle.rules.specs.Replay.{Called, bioCall, tickCall, planCall, setCall, isStopped, stepped, nextPlace, beginning}
 use Rattle.rules.specs.declared.budget.Controller.{Controller}
 use Rattle.rules.specs.declared.trace.Record.the-variants.{Node, Model as ModelOf, Start, Bio as BioOf, Tick, Plan, Vrate}
 use Rattle.rules.specs.declared.trace.Read.{Read}
@@ -17,7 +18,7 @@ use Rattle.rules.specs.declared.replay.Phase.{Phase}
 use Rattle.rules.specs.declared.replay.Phase.the-variants.{Setup, Priced, Running, Stopped}
 use Rattle.rules.specs.declared.replay.Replay.{Replay}
 use Rattle.rules.specs.declared.replay.Call.{Call}
-use Rattle.rules.specs.declared.replay.Call.the-variants.{Bio as CallBio, Tick as CallTick, Plan as CallPlan, Vrate as CallVrate, None as NoCall}
+use Rattle.rules.specs.declared.replay.Call.the-variants.{Bio as CallBio, Tick as CallTick, Plan as CallPlan, Set as CallSet, None as NoCall}
 use Rattle.rules.specs.declared.replay.Printed.{Printed}
 use Rattle.rules.specs.declared.replay.Printed.the-variants.{Bytes as BytesOf, Short}
 use Rattle.rules.specs.declared.replay.Stepped.{Stepped}
@@ -99,7 +100,7 @@ callOf (Found (Start time) next) = NoCall
 callOf (Found (BioOf b) next) = CallBio b
 callOf (Found (Tick time) next) = CallTick time
 callOf (Found Plan next) = CallPlan
-callOf (Found (Vrate v) next) = CallVrate v
+callOf (Found (Vrate v) next) = CallSet (toVrate v)
 callOf End = NoCall
 callOf (Unread x) = NoCall
 
@@ -107,7 +108,7 @@ unfoldable pub isCall : Call → Bool
 isCall (CallBio b) = true
 isCall (CallTick time) = true
 isCall CallPlan = true
-isCall (CallVrate v) = true
+isCall (CallSet x) = true
 isCall NoCall = false
 
 abbrev pub isRunning : Phase → Bool
@@ -124,7 +125,7 @@ unfoldable pub calling : Call → Controller → Called
 calling (CallBio b) c = bioCall b c
 calling (CallTick time) c = tickCall time c
 calling CallPlan c = planCall c
-calling (CallVrate v) c = vrateCall v c
+calling (CallSet x) c = setCall x c
 calling NoCall c = record { bytes = []; state = c }
 
 pub record Run : Type 0 where

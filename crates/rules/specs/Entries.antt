@@ -18,6 +18,7 @@ use Rattle.rules.specs.declared.budget.Controller.{Controller}
 use Rattle.rules.specs.declared.budget.Submitted.{Submitted}
 use Rattle.rules.specs.declared.budget.Ticked.{Ticked}
 use Rattle.rules.specs.declared.budget.Outcome.{Outcome}
+use Rattle.rules.specs.declared.replay.Setting.{Setting}
 use Rattle.rules.specs.declared.refusals.Pricing.{Pricing}
 use Rattle.rules.specs.declared.refusals.Pricing.the-variants.{Priced, Refused as Unpriced}
 use Rattle.rules.specs.declared.refusals.Costing.{Costing}
@@ -111,3 +112,10 @@ vratedBy (Refused x) v c = record { answer = Refused x; state = c }
 
 unfoldable pub vrated : ℕ → Controller → Outcome
 vrated v c = vratedBy (firstOf (vrateChecks v)) v c
+
+-- ---- a call that sets one thing and does nothing else
+abbrev pub toVrate : ℕ → Setting
+toVrate v = record { vrate = v }
+
+abbrev pub setBy : Setting → Controller → Outcome
+setBy x c = vrated (x .vrate) c

@@ -14,23 +14,16 @@ use Rattle.rules.specs.Budget.{rowAt, queueAt, shareAt, owes}
 use Rattle.rules.specs.Tick.{growth, gained, repayment, turnOf}
 use Rattle.rules.specs.Plan.{quietIn, forgiveness}
 use Rattle.rules.specs.Refusals.{firstOf, tickChecks, planChecks}
-use Rattle.rules.specs.Entries.{submitted, ticked, planned, vrated}
+use Rattle.rules.specs.Entries.{submitted, ticked, planned, setBy}
 use Rattle.rules.specs.declared.units.Virt.{Virt}
 use Rattle.rules.specs.declared.cost.Bio.{Bio}
 use Rattle.rules.specs.declared.budget.Queue.{Queue}
 use Rattle.rules.specs.declared.budget.Controller.{Controller}
-use Rattle.rules.specs.declared.budget.Outcome.{Outcome}
+use Rattle.rules.specs.declared.replay.Setting.{Setting}
 use Rattle.rules.specs.declared.refusals.Verdict.{Verdict}
 use Rattle.rules.specs.declared.refusals.Verdict.the-variants.{Accepted, Refused}
 use Rattle.rules.specs.declared.refusals.Answer.{Answer}
 use Rattle.rules.specs.declared.refusals.Answer.the-variants.{Issued, Waits, OnDebt, Refused as Declined}
-
--- ---- a call that sets one thing and does nothing else: what it answers, and the state that it leaves
-pub data Setting : Type 0 where
-  vrate : ℕ → Setting
-
-abbrev pub setBy : Setting → Controller → Outcome
-setBy (vrate v) c = vrated v c
 
 -- ---- the calls, with any arguments; a tick has the contents of the buffer that it is lent
 pub data Call : Type 0 where

@@ -9,7 +9,7 @@ use Rattle.rules.specs.Numbers.{nodesMost, leafMost, waitingMost, letter
 use Rattle.rules.specs.Words.{joinTo, has}
 use Rattle.rules.specs.Budget.{fresh}
 use Rattle.rules.specs.Refusals.{number, firstOf, nodeChecks, rateChecks}
-use Rattle.rules.specs.Entries.{noTree, slowest, slowestModel, started, submitted, ticked, lentOf, planned, vrated}
+use Rattle.rules.specs.Entries.{noTree, slowest, slowestModel, started, submitted, ticked, lentOf, planned, toVrate, setBy}
 use Rattle.rules.specs.Trace.{kindOf, readAt}
 use Rattle.rules.specs.declared.cost.Rates.{Rates}
 use Rattle.rules.specs.declared.cost.Bio.{Bio}
@@ -30,6 +30,7 @@ use Rattle.rules.specs.declared.trace.Read.the-variants.{Found, End, Ref
 use Rattle.rules.specs.declared.replay.Phase.{Phase}
 use Rattle.rules.specs.declared.replay.Phase.the-variants.{Setup, Priced, Running, Stopped}
 use Rattle.rules.specs.declared.replay.Replay.{Replay}
+use Rattle.rules.specs.declared.replay.Setting.{Setting}
 
 -- ---- lines: a letter, a blank before each number, the number's decimal digits, a line feed
 unfoldable pub digitsIn : ℕ → ℕ → List ℕ
@@ -159,8 +160,8 @@ tickCall time c =
 abbrev pub planCall : Controller → Called
 planCall c = record { bytes = planLines (planned c .answer) (planned c .state); state = planned c .state }
 
-abbrev pub vrateCall : ℕ → Controller → Called
-vrateCall v c = record { bytes = verdictLines (vrated v c .answer); state = vrated v c .state }
+abbrev pub setCall : Setting → Controller → Called
+setCall x c = record { bytes = verdictLines (setBy x c .answer); state = setBy x c .state }
 
 -- ".. otherwise it goes on"
 abbrev pub goesOn : Called → Replay → Step
@@ -173,7 +174,7 @@ recordStep (Start time) s = startStep (started (s .tree) (s .rates) time .answer
 recordStep (BioOf b) s = goesOn (bioCall b (s .state)) s
 recordStep (Tick time) s = goesOn (tickCall time (s .state)) s
 recordStep Plan s = goesOn (planCall (s .state)) s
-recordStep (Vrate v) s = goesOn (vrateCall v (s .state)) s
+recordStep (Vrate v) s = goesOn (setCall (toVrate v) (s .state)) s
 
 -- ---- what is read at a place: a record, which is checked for 18 and then for its own refusals, the end, or 16 or 17
 unfoldable pub readStep : Read → Replay → Step

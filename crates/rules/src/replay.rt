@@ -45,12 +45,17 @@ pub struct Fed {
     pub replay: Replay,
 }
 
+// What a call sets that does nothing else.
+pub struct Setting {
+    pub vrate: u16,
+}
+
 // What a record asks of the controller, if it is one that comes after start.
 pub enum Call {
     Bio(Bio),
     Tick(u64),
     Plan,
-    Vrate(u16),
+    Set(Setting),
     None,
 }
 

@@ -17,8 +17,8 @@ use Rattle.rules.specs.Laws.Buffers.{stands-left, stands-kept, stands-fits}
 use Rattle.rules.specs.declared.budget.Controller.{Controller}
 use Rattle.rules.specs.declared.replay.Call.{Call}
 use Rattle.calls.specs.Calls.{planLinesOf}
-use Rattle.calls.proofs.Answered.{Answered, can-print, bio-answered, tick-answered, plan-answered, vrate-answered}
-use Rattle.calls.proofs.Running.{Running, begun, goes, ends, asks, called, no-call, bio-is-call, tick-is-call, plan-is-call, vrate-is-call}
+use Rattle.calls.proofs.Answered.{Answered, can-print, bio-answered, tick-answered, plan-answered, set-answered}
+use Rattle.calls.proofs.Running.{Running, begun, goes, ends, asks, called, no-call, bio-is-call, tick-is-call, plan-is-call, set-is-call}
 use Rattle.calls.proofs.run.Statement.{statement}
 use Rattle.calls.proofs.run.Tie as tie
 use Rattle.rules.specs.Buffers.{Written, restOf, putBack}
@@ -212,7 +212,7 @@ loop-again-3 c =
     again-at (asked .before .before) _ (asked .enum-told2 .given .1) plan-is-call _
     (plan-answered _ _ _ (done .plan .ensures .0) (put .put-planned .ensures)) (put .put-planned .kept .1 .1 .1 .0)
 
--- ---- a vrate
+-- ---- a setting
 enum-known-call-3 : tie.Need-enum-known-call-3 Inv-loop μ-loop
 enum-known-call-3 c = search needs
 
@@ -244,8 +244,8 @@ loop-again-4 c =
     let put = c .before .before .before in
     let done = put .before .before in
     let asked = done .before .before in
-    again-at (asked .before .before) _ (asked .call3 .given .1) (vrate-is-call _) _
-    (vrate-answered _ _ _ _ (done .vrate .ensures .0) (put .put-verdict .ensures)) (put .put-verdict .kept .1 .0)
+    again-at (asked .before .before) _ (asked .call3 .given .1) (set-is-call _) _
+    (set-answered _ _ _ _ (done .vrate .ensures .0) (put .put-verdict .ensures)) (put .put-verdict .kept .1 .0)
 
 -- ---- the loop is left
 same-length-2 : tie.Need-same-length-2 Inv-loop μ-loop

@@ -15,10 +15,10 @@ use Rattle.rules.specs.Budget.{emptyQueue, emptyRow, fresh, rowAt, queue
 use Rattle.rules.specs.Tick.{growth, capped, turn, releases, waitingAll}
 use Rattle.rules.specs.Plan.{usageAll, isQuiet, targetOf, isDonor, sumOver, quietIn, vrateInRange}
 use Rattle.rules.specs.Refusals.{Check, firstOf, isFault, verdictNumber, readNumber, writeNumber, modelValues, costChecks, roomChecks, tickChecks, planChecks}
-use Rattle.rules.specs.Entries.{costing, started, submitted, ticked, lentOf, planned, vrated, slowest}
+use Rattle.rules.specs.Entries.{costing, started, submitted, ticked, lentOf, planned, vrated, toVrate, slowest}
 use Rattle.rules.specs.Trace.{recordBytes, writing, readAt}
 use Rattle.rules.specs.Replay.{digits, shareLines, inPhase, beginning, grown, Step, stepped, nextPlace, tickCall, replay, within, rootTree}
-use Rattle.rules.specs.Ledger.{Setting, Call, costWaiting, costOfFirst, waiting, owed, costOn, releasedAt, repaidAt, forgivenAt, accepted, issued, released, repaid, forgiven, generated, charged, saved}
+use Rattle.rules.specs.Ledger.{Call, costWaiting, costOfFirst, waiting, owed, costOn, releasedAt, repaidAt, forgivenAt, accepted, issued, released, repaid, forgiven, generated, charged, saved}
 use Rattle.rules.specs.declared.cost.Price.{Price}
 use Rattle.rules.specs.declared.cost.Model.{Model}
 use Rattle.rules.specs.declared.units.Abs.{Abs}
@@ -387,7 +387,7 @@ ledger =
     ∷ see (heads (Call.tick 11000 (9 ∷ [])) waits6 1) (replicate 6 0)
     -- a quiet plan forgives 3 of 7, and vrate counts nothing
     ∷ see (heads Call.plan small6 1) (0 ∷ 0 ∷ 0 ∷ 0 ∷ 3 ∷ 0 ∷ [])
-    ∷ see (heads (Call.set (Setting.vrate 300)) small6 1) (replicate 6 0)
+    ∷ see (heads (Call.set (toVrate 300)) small6 1) (replicate 6 0)
     -- what waits, what is owed, what all are charged, and what they have saved
     ∷ see (waiting waits6 1 ∷ owed owes6 1 ∷ []) (60011 ∷ 50000 ∷ [])
     ∷ see (charged (Call.tick 11000 (9 ∷ [])) both6 ∷ saved saved6 ∷ []) (15000 ∷ (400000 * 873741824 + 900000 * 200000000) ∷ [])

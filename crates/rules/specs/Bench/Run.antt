@@ -4,13 +4,13 @@ use mathlib.Core.Path.{_≡_, refl}
 use mathlib.Core.List.{List, [], _∷_, _++_}
 use Prim.Native.Nat.{ℕ, _+_, _-_, _^_}
 use lib.ListN.{replicate, take}
-use Rattle.rules.specs.Ledger.{Setting, setBy, Call, after}
+use Rattle.rules.specs.Ledger.{Call, after}
 use Rattle.rules.specs.Numbers.{nodesMost}
 use Rattle.rules.specs.Units.{virt}
 use Rattle.rules.specs.Budget.{rowAt, shareAt, withClock, withTimes}
 use Rattle.rules.specs.Tick.{tick}
 use Rattle.rules.specs.Plan.{plan}
-use Rattle.rules.specs.Entries.{started, submitted, ticked, lentOf, planned}
+use Rattle.rules.specs.Entries.{started, submitted, ticked, lentOf, planned, toVrate, setBy}
 use Rattle.rules.specs.declared.cost.Rates.{Rates}
 use Rattle.rules.specs.declared.tree.Tree.{Tree}
 use Rattle.rules.specs.declared.budget.Controller.{Controller}
@@ -67,7 +67,7 @@ abbrev plans : Verdict → Move
 plans answer = record { call = Call.plan; want = toOther answer }
 
 abbrev rate : ℕ → Verdict → Move
-rate v answer = record { call = Call.set (Setting.vrate v); want = toOther answer }
+rate v answer = record { call = Call.set (toVrate v); want = toOther answer }
 
 -- the tree of B5 in the arrays of the code, and M with the slowest writes, a page of which costs a second
 abbrev pub runTree : Tree

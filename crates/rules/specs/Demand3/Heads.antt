@@ -20,9 +20,9 @@ use Rattle.rules.specs.Budget.{rowAt, queueAt, shareAt, popped, oldestCo
 use Rattle.rules.specs.Tick.{growth, advanced, gained, repayment, repaid as repaying, turn, turnOf, releases, lentAfter, tick as ticking}
 use Rattle.rules.specs.Plan.{usageAll, isDonation, donated, closed, shared, plan as planning}
 use Rattle.rules.specs.Refusals.{firstOf, submitChecks, tickChecks, planChecks}
-use Rattle.rules.specs.Entries.{submitted, submittedBy, ticked, tickedBy, lentOf, lentBy, planned, plannedBy}
+use Rattle.rules.specs.Entries.{submitted, submittedBy, ticked, tickedBy, lentOf, lentBy, planned, plannedBy, setBy}
 use Rattle.rules.specs.Invariant.{Sound}
-use Rattle.rules.specs.Ledger.{setBy, Call, after, costWaiting, costOfFirst, idWaiting, idsOfFirst, waiting, owed, ifTaken, ifIssued, ifWaits, ifOnDebt, costOn, ifAccepted, releasedAt, repaidAt, accepted, issued, released, repaid, forgiven, generated}
+use Rattle.rules.specs.Ledger.{Call, after, costWaiting, costOfFirst, idWaiting, idsOfFirst, waiting, owed, ifTaken, ifIssued, ifWaits, ifOnDebt, costOn, ifAccepted, releasedAt, repaidAt, accepted, issued, released, repaid, forgiven, generated}
 use Rattle.rules.specs.Laws.Bools.{is-false, true-not-false}
 use Rattle.rules.specs.Laws.Trees.{root-no-leaf, leaf-last, last-most}
 use Rattle.rules.specs.Laws.Sums.{length-join, join-within, join-at}

@@ -7,11 +7,11 @@ use mathlib.Core.List.{List, [], _∷_, _++_}
 use Prim.Native.Nat.{ℕ, zero, suc, _≤_}
 use Rattle.rules.specs.Tree.{countInRange, treeFault}
 use Rattle.rules.specs.Refusals.{firstOf, treeChecks, nodeChecks, rateChecks, startChecks}
-use Rattle.rules.specs.Entries.{noTree, slowest, started, startedBy}
+use Rattle.rules.specs.Entries.{noTree, slowest, started, startedBy, toVrate}
 use Rattle.rules.specs.Trace.{kindOf, readAt}
-use Rattle.rules.specs.Replay.{Step, silent, stopsAt, Called, bioCall, tickCall, planCall, vrateCall, goesOn, inPhase, isStopped, allRoom, beginning, grown, nodeStep, modelStep, startStep, recordStep, readStep, nextPlace, stepped}
+use Rattle.rules.specs.Replay.{Step, silent, stopsAt, Called, bioCall, tickCall, planCall, setCall, goesOn, inPhase, isStopped, allRoom, beginning, grown, nodeStep, modelStep, startStep, recordStep, readStep, nextPlace, stepped}
 use Rattle.rules.specs.Chunks.{callOf, isCall}
-use Rattle.rules.specs.Ledger.{Setting, Call, after, generated, charged}
+use Rattle.rules.specs.Ledger.{Call, after, generated, charged}
 use Rattle.rules.specs.Demand3.Sentences.{run, sumOf, never-overspent}
 use Rattle.rules.specs.declared.cost.Rates.{Rates}
 use Rattle.rules.specs.declared.tree.Tree.{Tree}
@@ -37,7 +37,7 @@ callsIn (Found (Start time) next) = []
 callsIn (Found (BioOf b) next) = Call.submit b ∷ []
 callsIn (Found (Tick time) next) = Call.tick time allRoom ∷ []
 callsIn (Found Plan next) = Call.plan ∷ []
-callsIn (Found (Vrate v) next) = Call.set (Setting.vrate v) ∷ []
+callsIn (Found (Vrate v) next) = Call.set (toVrate v) ∷ []
 callsIn End = []
 callsIn (Unread x) = []
 
@@ -101,7 +101,7 @@ module _ (trace : List ℕ) where
     goes-on (Found (BioOf b) next) h = goes (bioCall b (s .state)) next _ (carried (BioOf b) next refl)
     goes-on (Found (Tick time) next) h = goes (tickCall time (s .state)) next _ (carried (Tick time) next refl)
     goes-on (Found Plan next) h = goes (planCall (s .state)) next _ (carried Plan next refl)
-    goes-on (Found (Vrate v) next) h = goes (vrateCall v (s .state)) next _ (carried (Vrate v) next refl)
+    goes-on (Found (Vrate v) next) h = goes (setCall (toVrate v) (s .state)) next _ (carried (Vrate v) next refl)
     goes-on End h =
         ap (λ (t : Replay). replayAfter n trace place t .state) (the-end-stays s e) ∙ on place s e
         ∙ ap (λ (ks : List Call). run ks (s .state)) (none-at-the-end n place h)
@@ -159,7 +159,7 @@ record-reaches (Start time) s h = by-start (started (s .tree) (s .rates) time .a
 record-reaches (BioOf b) s h = one-more (Call.submit b) h
 record-reaches (Tick time) s h = one-more (Call.tick time allRoom) h
 record-reaches Plan s h = one-more Call.plan h
-record-reaches (Vrate v) s h = one-more (Call.set (Setting.vrate v)) h
+record-reaches (Vrate v) s h = one-more (Call.set (toVrate v)) h
 
 step-reaches : (read : Read) (s : Replay) → Reached (s .state) → Reached (stepped read s .replay .state)
 unfolding stepped readStep

@@ -17,7 +17,7 @@ use Rattle.rules.specs.Invariant.{Sound}
 use Rattle.rules.specs.Laws.Bools.{true-not-false, and-left, and-right}
 use Rattle.rules.specs.Laws.Chunks.{nextAt}
 use Rattle.rules.specs.Laws.Trace.{found-only-whole}
-use Rattle.rules.specs.Laws.Starts.{vrate-keeps}
+use Rattle.rules.specs.Laws.Settings.{set-keeps}
 use Rattle.rules.specs.Laws.Submits.{submit-keeps}
 use Rattle.rules.specs.Laws.Ticks.{ticked-keeps}
 use Rattle.rules.specs.Laws.Plans.{planned-keeps}
@@ -27,7 +27,7 @@ use Rattle.rules.specs.declared.trace.Record.the-variants.{Node, Model a
 use Rattle.rules.specs.declared.trace.Read.{Read}
 use Rattle.rules.specs.declared.trace.Read.the-variants.{Found, End, Refused as Unread}
 use Rattle.rules.specs.declared.replay.Call.{Call}
-use Rattle.rules.specs.declared.replay.Call.the-variants.{Bio as CallBio, Tick as CallTick, Plan as CallPlan, Vrate as CallVrate, None as NoCall}
+use Rattle.rules.specs.declared.replay.Call.the-variants.{Bio as CallBio, Tick as CallTick, Plan as CallPlan, Set as CallSet, None as NoCall}
 use Rattle.rules.specs.declared.replay.Phase.{Phase}
 use Rattle.rules.specs.declared.replay.Phase.the-variants.{Setup, Priced, Running, Stopped}
 use Rattle.rules.specs.declared.replay.Replay.{Replay}
@@ -38,7 +38,7 @@ unfolding calling
 calling-keeps (CallBio b) sound = submit-keeps sound b
 calling-keeps (CallTick time) sound = ticked-keeps sound time allRoom
 calling-keeps CallPlan sound = planned-keeps sound
-calling-keeps (CallVrate v) sound = vrate-keeps sound v
+calling-keeps (CallSet x) sound = set-keeps x sound
 calling-keeps NoCall sound = sound
 
 -- the replay with another state
