@@ -4,7 +4,7 @@ use mathlib.Core.Path.{_≡_, refl}
 use mathlib.Core.Bool.{Bool, true, false}
 use mathlib.Core.List.{[]}
 use Prim.Native.Nat.{ℕ}
-use Rattle.rules.specs.Budget.{answerTo}
+use Rattle.rules.specs.Budget.{answerTo, withAccepted, withEnd}
 use Rattle.rules.specs.Tick.{capped}
 use Rattle.rules.specs.Plan.{stays, isDonor}
 use Rattle.rules.specs.declared.units.Abs.{Abs}
@@ -42,5 +42,4 @@ donor-by-count target base row q = refl
 
 -- ---- an accepted bio that ends at a sector
 abbrev pub notedAt : ℕ → Row → Row
-notedAt end row =
-    record { budget = row .budget; debt = row .debt; usage = row .usage; end = end; begun = true; accepted = true }
+notedAt end row = withAccepted true (withEnd end row)

@@ -8,7 +8,7 @@ use native.Mathlib.Omega.{arith}
 use lib.ListN.{length, getD, set}
 use Rattle.rules.specs.Numbers.{nodesMost, leafMost}
 use Rattle.rules.specs.Words.{sumTo, joinTo, table, has}
-use Rattle.rules.specs.Budget.{rowAt, queueAt, shareAt, emptyRow, emptyQueue}
+use Rattle.rules.specs.Budget.{rowAt, queueAt, shareAt, emptyRow, emptyQueue, withClock, withBooks}
 use Rattle.rules.specs.Tick.{Turn, growth, advanced, turn, turnOf, releases, lentAfter, tick, waitingAll}
 use Rattle.rules.specs.Entries.{tickedBy, lentBy}
 use Rattle.rules.specs.Invariant.{Sound, TickPasses}
@@ -34,19 +34,6 @@ use Rattle.leaf.specs.Turns.{turned}
 use Rattle.leaf.specs.declared.tick.Turned.{Turned}
 use Rattle.tick.specs.Clocks.{Near}
 
-abbrev withLeaves : List Row → List Queue → Controller → Controller
-withLeaves rows queues c = record {
-  tree = c .tree;
-  model = c .model;
-  clock = c .clock;
-  leaves = c .leaves;
-  active = c .active;
-  donors = c .donors;
-  shares = c .shares;
-  rows = rows;
-  queues = queues;
-}
-
 module _ (g : Virt) (c : Controller) where
   abbrev rowOf : ℕ → Row
   rowOf n = turnOf g c n .row
@@ -70,7 +57,7 @@ pub record Going (g : Virt) (c : Controller) (lent : List ℕ) (s : Controller) 
   pub upto : n ≤ nodesMost
   pub rows : s .rows ≡ swept (table (rowOf g c)) (c .rows) n
   pub queues : s .queues ≡ swept (table (queueOf g c)) (c .queues) n
-  pub rest : s ≡ withLeaves (s .rows) (s .queues) c
+  pub rest : s ≡ withBooks (s .rows) (s .queues) c
   pub front : Stands (idsBelow g c n) lent out at
 
 pub same-going : {g : Virt} {c : Controller} {lent : List ℕ} {s s′ : Controller} {out out′ : List ℕ} {at at′ n : ℕ}
@@ -183,31 +170,18 @@ module _ {c : Controller} (sound : Sound c) (g : Virt) where
           pub count-fits : at + r .count ≤ length lent
           count-fits = omega (arith, at-least, released-fits)
 
-          pub active-turns : Going g c lent (withLeaves (set (s .rows) n (r .row)) (set (s .queues) n (r .queue)) s)
+          pub active-turns : Going g c lent (withBooks (set (s .rows) n (r .row)) (set (s .queues) n (r .queue)) s)
               (putBack out at part) (at + r .count) (n + 1)
           active-turns = record {
             from = omega arith;
             upto = omega arith;
             rows = place-put (rowOf g c) (c .rows) (s .rows) n emptyRow (sound .rows-all) (going .rows) h (r .row) (ap (λ (t : Turned). t .row) turned-same);
             queues = place-put (queueOf g c) (c .queues) (s .queues) n emptyQueue (sound .queues-all) (going .queues) h (r .queue) (ap (λ (t : Turned). t .queue) turned-same);
-            rest = ap (λ (k : Controller). withLeaves (set (s .rows) n (r .row)) (set (s .queues) n (r .queue)) k) (going .rest);
+            rest = ap (λ (k : Controller). withBooks (set (s .rows) n (r .row)) (set (s .queues) n (r .queue)) k) (going .rest);
             front = rw next-ids (stands-more (going .front) (idsOf g c n) part (r .count) its-ids count-fits);
           }
 
 -- ---- the end
-abbrev withClock : Clock → Controller → Controller
-withClock k c = record {
-  tree = c .tree;
-  model = c .model;
-  clock = k;
-  leaves = c .leaves;
-  active = c .active;
-  donors = c .donors;
-  shares = c .shares;
-  rows = c .rows;
-  queues = c .queues;
-}
-
 module _ {c : Controller} (sound : Sound c) {g : Virt} (time : ℕ) (gain : g ≡ growth (c .clock) time)
     {lent : List ℕ} {s : Controller} {out : List ℕ} {at n : ℕ} (going : Going g c lent s out at n) where
   clock-stays : s .clock ≡ c .clock

@@ -34,19 +34,17 @@ pub(crate) fn growth(clock: Clock, time: u64) -> Virt
 }
 
 // The clock at the new time, of which the growth is known.
-pub(crate) fn advanced(time: u64, clock: Clock, grown: Virt) -> Clock
+pub(crate) fn advanced(time: u64, mut clock: Clock, grown: Virt) -> Clock
     requires { ⌜ Near time clock × (grown ≡ growthOf clock time) ⌝ }
     ensures { λ r. ⌜ r ≡ advancedOf time clock ⌝ }
 {
-    let vtime = clock.vtime.0;
-    let since = clock.since.0;
     let more = grown.0;
-    Clock {
-        time,
-        vtime: Virt(vtime + more),
-        since: Virt(since + more),
-        vrate: clock.vrate,
-    }
+    let vtime = Virt(clock.vtime.0 + more);
+    let since = Virt(clock.since.0 + more);
+    clock.time = time;
+    clock.vtime = vtime;
+    clock.since = since;
+    clock
 }
 
 // Refusals 9 to 12. Times are compared by their difference: a time may be any u64.

@@ -3,6 +3,7 @@
 use mathlib.Core.Path.{ap}
 use mathlib.Core.List.{List}
 use borrow.Author.Needs.{needs}
+use Rattle.rules.specs.Budget.{withClock, withBooks}
 use Rattle.rules.specs.Plan.{restartedClock, closed}
 use Rattle.rules.specs.declared.budget.Row.{Row}
 use Rattle.rules.specs.declared.budget.Controller.{Controller}
@@ -10,17 +11,7 @@ use Rattle.plan.proofs.closed.Statement.{statement}
 use Rattle.plan.proofs.closed.Tie as tie
 
 abbrev closedWith : Controller → List Row → Controller
-closedWith c rows = record {
-  tree = c .tree;
-  model = c .model;
-  clock = restartedClock (c .clock);
-  leaves = c .leaves;
-  active = c .active;
-  donors = c .donors;
-  shares = c .shares;
-  rows = rows;
-  queues = c .queues;
-}
+closedWith c rows = withClock (restartedClock (c .clock)) (withBooks rows (c .queues) c)
 
 closed-rows-requires : tie.Need-closed-rows-requires
 closed-rows-requires c κs = search needs

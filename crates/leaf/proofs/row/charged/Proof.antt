@@ -3,7 +3,7 @@
 use mathlib.Core.Path.{_≡_}
 use Prim.Native.Nat.{ℕ, _+_, _-_}
 use Rattle.rules.specs.Units.{abs, virt, relative}
-use Rattle.rules.specs.Budget.{charged}
+use Rattle.rules.specs.Budget.{withBudget, withUsage, charged}
 use Rattle.rules.specs.declared.units.Abs.{Abs}
 use Rattle.rules.specs.declared.units.Virt.{Virt}
 use Rattle.rules.specs.declared.budget.Row.{Row}
@@ -21,7 +21,7 @@ add-t8 : tie.Need-add-t8
 add-t8 c = search needs
 
 paid : (cost : Abs) (share : ℕ) (row : Row) (price left : Virt) → price ≡ relative cost share → left ≡ virt (row .budget .0 - price .0)
-    → _≡_ {A = Row} (record { budget = left; debt = row .debt; usage = abs (row .usage .0 + cost .0); end = row .end; begun = row .begun; accepted = row .accepted }) (charged cost share row)
+    → withUsage (abs (row .usage .0 + cost .0)) (withBudget left row) ≡ charged cost share row
 paid cost share row price left e f = rw (f, e)
 
 returns : tie.Need-returns
