@@ -41,11 +41,11 @@ fn rates_at(trace: &[u8], body: usize) -> Rates
 {
     Rates {
         rbps: number(trace, body, 8),
-        rseqiops: number(trace, body + 8, 8),
-        rrandiops: number(trace, body + 16, 8),
-        wbps: number(trace, body + 24, 8),
-        wseqiops: number(trace, body + 32, 8),
-        wrandiops: number(trace, body + 40, 8),
+        rseqiops: number(trace, body + layout::MODEL_RSEQIOPS, 8),
+        rrandiops: number(trace, body + layout::MODEL_RRANDIOPS, 8),
+        wbps: number(trace, body + layout::MODEL_WBPS, 8),
+        wseqiops: number(trace, body + layout::MODEL_WSEQIOPS, 8),
+        wrandiops: number(trace, body + layout::MODEL_WRANDIOPS, 8),
     }
 }
 
@@ -56,10 +56,10 @@ fn bio_at(trace: &[u8], body: usize) -> Bio
 {
     Bio {
         node: trace[body],
-        flags: trace[body + 1],
-        id: number(trace, body + 2, 4) as u32,
-        sector: number(trace, body + 6, 8),
-        bytes: number(trace, body + 14, 4) as u32,
+        flags: trace[body + layout::BIO_FLAGS],
+        id: number(trace, body + layout::BIO_ID, 4) as u32,
+        sector: number(trace, body + layout::BIO_SECTOR, 8),
+        bytes: number(trace, body + layout::BIO_BYTES, 4) as u32,
     }
 }
 
@@ -69,7 +69,10 @@ fn record_at(trace: &[u8], body: usize, kind: u8) -> Record
     ensures { λ r. ⌜ r ≡ recordOf kind (fieldsAt kind body (now (trace .entry))) ⌝ }
 {
     match kind {
-        1 => Record::Node(trace[body], number(trace, body + 1, 2) as u16),
+        1 => Record::Node(
+            trace[body],
+            number(trace, body + layout::NODE_WEIGHT, 2) as u16,
+        ),
         2 => Record::Model(rates_at(trace, body)),
         3 => Record::Start(number(trace, body, 8)),
         4 => Record::Bio(bio_at(trace, body)),
@@ -94,7 +97,7 @@ pub fn read_at(trace: &[u8], at: usize) -> Read
     if !layout::is_kind(kind) {
         return Read::Refused(Refusal::UnknownKind);
     }
-    let body = at + 1;
+    let body = at + layout::BODY;
     let len = layout::body_len(kind);
     if len <= trace.len() - body {
         let next = body + len;

@@ -12,6 +12,29 @@ ghost use Rattle.rules.specs.Trace.{bytesOf, layout, total, kindOf};
 ghost use Rattle.trace.specs.Answers.{Writes, WriteOnPaper};
 ghost use Rattle.trace.specs.Laid.{laid, bodyLaid};
 
+// Where a record's fields stand behind its kind.
+const BODY: usize = layout::BODY;
+
+const WEIGHT: usize = layout::BODY + layout::NODE_WEIGHT;
+
+const RSEQIOPS: usize = layout::BODY + layout::MODEL_RSEQIOPS;
+
+const RRANDIOPS: usize = layout::BODY + layout::MODEL_RRANDIOPS;
+
+const WBPS: usize = layout::BODY + layout::MODEL_WBPS;
+
+const WSEQIOPS: usize = layout::BODY + layout::MODEL_WSEQIOPS;
+
+const WRANDIOPS: usize = layout::BODY + layout::MODEL_WRANDIOPS;
+
+const FLAGS: usize = layout::BODY + layout::BIO_FLAGS;
+
+const ID: usize = layout::BODY + layout::BIO_ID;
+
+const SECTOR: usize = layout::BODY + layout::BIO_SECTOR;
+
+const BYTES: usize = layout::BODY + layout::BIO_BYTES;
+
 // "numbers little-endian": the least byte first.
 fn put(lent: &mut [u8], at: usize, width: usize, number: u64)
     requires { ⌜ at + width ≤ length (now lent) ⌝ }
@@ -31,12 +54,12 @@ fn put_rates(rates: Rates, lent: &mut [u8])
     requires { ⌜ 1 + total (layout 2) ≤ length (now lent) ⌝ }
     ensures { λ _. ⌜ now (lent .exit) ≡ bodyLaid 2 (Record.Model rates) (now (lent .entry)) ⌝ }
 {
-    put(lent, 1, 8, rates.rbps);
-    put(lent, 9, 8, rates.rseqiops);
-    put(lent, 17, 8, rates.rrandiops);
-    put(lent, 25, 8, rates.wbps);
-    put(lent, 33, 8, rates.wseqiops);
-    put(lent, 41, 8, rates.wrandiops);
+    put(lent, BODY, 8, rates.rbps);
+    put(lent, RSEQIOPS, 8, rates.rseqiops);
+    put(lent, RRANDIOPS, 8, rates.rrandiops);
+    put(lent, WBPS, 8, rates.wbps);
+    put(lent, WSEQIOPS, 8, rates.wseqiops);
+    put(lent, WRANDIOPS, 8, rates.wrandiops);
 }
 
 // "4 bio (node 1 .."
@@ -44,11 +67,11 @@ fn put_bio(bio: Bio, lent: &mut [u8])
     requires { ⌜ 1 + total (layout 4) ≤ length (now lent) ⌝ }
     ensures { λ _. ⌜ now (lent .exit) ≡ bodyLaid 4 (Record.Bio bio) (now (lent .entry)) ⌝ }
 {
-    put(lent, 1, 1, bio.node as u64);
-    put(lent, 2, 1, bio.flags as u64);
-    put(lent, 3, 4, bio.id as u64);
-    put(lent, 7, 8, bio.sector);
-    put(lent, 15, 4, bio.bytes as u64);
+    put(lent, BODY, 1, bio.node as u64);
+    put(lent, FLAGS, 1, bio.flags as u64);
+    put(lent, ID, 4, bio.id as u64);
+    put(lent, SECTOR, 8, bio.sector);
+    put(lent, BYTES, 4, bio.bytes as u64);
 }
 
 // "then a body whose .."
@@ -58,15 +81,15 @@ fn put_body(r: Record, lent: &mut [u8])
 {
     match r {
         Record::Node(parent, weight) => {
-            put(lent, 1, 1, parent as u64);
-            put(lent, 2, 2, weight as u64);
+            put(lent, BODY, 1, parent as u64);
+            put(lent, WEIGHT, 2, weight as u64);
         }
         Record::Model(rates) => put_rates(rates, lent),
-        Record::Start(time) => put(lent, 1, 8, time),
+        Record::Start(time) => put(lent, BODY, 8, time),
         Record::Bio(bio) => put_bio(bio, lent),
-        Record::Tick(time) => put(lent, 1, 8, time),
+        Record::Tick(time) => put(lent, BODY, 8, time),
         Record::Plan => {}
-        Record::Vrate(vrate) => put(lent, 1, 2, vrate as u64),
+        Record::Vrate(vrate) => put(lent, BODY, 2, vrate as u64),
     }
 }
 

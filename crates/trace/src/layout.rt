@@ -4,6 +4,31 @@ ghost use mathlib.Core.Bool.{true};
 ghost use mathlib.Core.Path.{_≡_};
 ghost use Rattle.rules.specs.Trace.{isKind, layout, total, kindOf};
 
+const LAST_KIND: u8 = 7;
+
+// Where a body begins behind its kind, and where in a body each field but the first.
+pub(crate) const BODY: usize = 1;
+
+pub(crate) const NODE_WEIGHT: usize = 1;
+
+pub(crate) const MODEL_RSEQIOPS: usize = 8;
+
+pub(crate) const MODEL_RRANDIOPS: usize = 16;
+
+pub(crate) const MODEL_WBPS: usize = 24;
+
+pub(crate) const MODEL_WSEQIOPS: usize = 32;
+
+pub(crate) const MODEL_WRANDIOPS: usize = 40;
+
+pub(crate) const BIO_FLAGS: usize = 1;
+
+pub(crate) const BIO_ID: usize = 2;
+
+pub(crate) const BIO_SECTOR: usize = 6;
+
+pub(crate) const BIO_BYTES: usize = 14;
+
 // "One byte of kind .."
 pub(crate) fn body_len(kind: u8) -> usize
     requires { ⌜ isKind kind ≡ true ⌝ }
@@ -27,7 +52,7 @@ pub(crate) fn is_kind(kind: u8) -> bool
     if kind < 1 {
         return false;
     }
-    kind <= 7
+    kind <= LAST_KIND
 }
 
 // The byte that a record begins with.
