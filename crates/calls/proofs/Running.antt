@@ -14,6 +14,7 @@ use Rattle.rules.specs.Trace.{readAt}
 use Rattle.rules.specs.Replay.{nextPlace}
 use Rattle.rules.specs.Chunks.{callOf, isCall, calling, still, calledBefore, runFrom}
 use Rattle.rules.specs.Invariant.{Sound}
+use Rattle.rules.specs.Buffers.{Written, Stands, restOf, putBack}
 use Rattle.rules.specs.Laws.Bools.{and-left, and-right}
 use Rattle.rules.specs.Laws.Buffers.{stands-none, stands-kept, stands-rest, stands-fits, stands-more}
 use Rattle.rules.specs.Laws.Runs.{calling-keeps, run-goes}
@@ -25,7 +26,6 @@ use Rattle.rules.specs.declared.replay.Call.the-variants.{Bio as CallBio, Tick 
 use Rattle.rules.specs.declared.replay.Setting.{Setting}
 use Rattle.calls.specs.Calls.{RanAs}
 use Rattle.calls.proofs.Answered.{Answered}
-use Rattle.rules.specs.Buffers.{Written, Stands, restOf, putBack}
 
 -- ---- which are calls
 none-is-no-call : isCall NoCall ≡ false

@@ -4,7 +4,7 @@
 ghost use mathlib.Core.Path.{_≡_};
 ghost use Prim.Native.Nat.{_≤_};
 ghost use lib.ListN.{length};
-ghost use Rattle.rules.specs.Numbers.{lineRoom};
+ghost use Rattle.rules.specs.Numbers.{lineRoom, sharesRoom};
 ghost use Rattle.rules.specs.Replay.{tickLines, nextPlace};
 ghost use Rattle.rules.specs.Chunks.{callOf, isCall, isRunning, runs as runsOf, runFrom};
 ghost use Rattle.rules.specs.Buffers.{Written};
@@ -98,7 +98,7 @@ fn put_ticked(answer: Count, ids: &[u32], out: &mut [u8]) -> usize
 
 // What a plan prints: each active leaf with its share.
 fn put_planned(answer: Verdict, active: u64, shares: &[u32; 64], out: &mut [u8]) -> usize
-    requires { ⌜ 1008 ≤ length (now out) ⌝ }
+    requires { ⌜ sharesRoom ≤ length (now out) ⌝ }
     ensures { λ r. ⌜ Written (planLinesOf answer active (now (shares .entry))) r (now (out .entry)) (now (out .exit)) ⌝ }
 {
     match answer {

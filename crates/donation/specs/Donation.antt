@@ -10,11 +10,11 @@ use Rattle.rules.specs.Numbers.{WHOLE, nodesMost}
 use Rattle.rules.specs.Words.{has}
 use Rattle.rules.specs.Tree.{baseShares, isThin}
 use Rattle.rules.specs.Plan.{isTaker, isDonation, sumOver}
+use Rattle.rules.specs.Invariant.{SoundTree, Within}
 use Rattle.rules.specs.Laws.Trees.{no-root-within}
 use Rattle.rules.specs.Laws.Shares.{base-shares-at, base-shares-end, leaves-share-at-most-whole, not-thin-keeps-the-floor}
 use Rattle.rules.specs.Laws.Resharing.{active-node, bases-sum}
 use Rattle.rules.specs.declared.tree.Tree.{Tree}
-use Rattle.rules.specs.Invariant.{SoundTree, Within}
 
 -- the root is no leaf, each active leaf has a base share, and a donor is active and its target is no more than its base share
 pub record Donation (active donors : ℕ) (bases targets : List ℕ) : Type 0 where

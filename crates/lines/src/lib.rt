@@ -4,6 +4,7 @@ ghost use mathlib.Core.Path.{_≡_};
 ghost use mathlib.Core.List.{[], _∷_, _++_};
 ghost use Prim.Native.Nat.{_+_, _*_, _≤_, _<_};
 ghost use lib.ListN.{length, take};
+ghost use Rattle.rules.specs.Numbers.{refusalRoom, idRoom, shareRoom, sharesRoom};
 ghost use Rattle.rules.specs.Refusals.{number};
 ghost use Rattle.rules.specs.Replay.{digits, line, refusalLine, answerLine, releaseLines, verdictLines, leafLine, shareLinesOf};
 ghost use Rattle.rules.specs.Buffers.{Written};
@@ -94,16 +95,16 @@ fn put_line2(letter: u8, a: u64, b: u64, out: &mut [u8]) -> usize
 
 // I, W, D or r, and an id: at most 13 bytes.
 fn put_id(letter: u8, id: u32, out: &mut [u8]) -> usize
-    requires { ⌜ 13 ≤ length (now out) ⌝ }
-    ensures { λ r. ⌜ Written (line letter (id ∷ [])) r (now (out .entry)) (now (out .exit)) × (r ≤ 13) ⌝ }
+    requires { ⌜ idRoom ≤ length (now out) ⌝ }
+    ensures { λ r. ⌜ Written (line letter (id ∷ [])) r (now (out .entry)) (now (out .exit)) × (r ≤ idRoom) ⌝ }
 {
     put_line1(letter, id as u64, out)
 }
 
 // P, an active leaf and its share, at most 16 bytes; nothing of an inactive leaf.
 fn put_leaf(active: u64, n: usize, share: u32, out: &mut [u8]) -> usize
-    requires { ⌜ (n < 64) × (16 ≤ length (now out)) ⌝ }
-    ensures { λ r. ⌜ Written (leafLine active n share) r (now (out .entry)) (now (out .exit)) × (r ≤ 16) ⌝ }
+    requires { ⌜ (n < 64) × (shareRoom ≤ length (now out)) ⌝ }
+    ensures { λ r. ⌜ Written (leafLine active n share) r (now (out .entry)) (now (out .exit)) × (r ≤ shareRoom) ⌝ }
 {
     if has(active, n) {
         return put_line2(b'P', n as u64, share as u64, out);
@@ -113,7 +114,7 @@ fn put_leaf(active: u64, n: usize, share: u32, out: &mut [u8]) -> usize
 
 // R and the refusal's number.
 pub fn put_refusal(x: Refusal, out: &mut [u8]) -> usize
-    requires { ⌜ 5 ≤ length (now out) ⌝ }
+    requires { ⌜ refusalRoom ≤ length (now out) ⌝ }
     ensures { λ r. ⌜ Written (refusalLine x) r (now (out .entry)) (now (out .exit)) ⌝ }
 {
     put_line1(b'R', number_of(x), out)
@@ -121,7 +122,7 @@ pub fn put_refusal(x: Refusal, out: &mut [u8]) -> usize
 
 // What a submission prints.
 pub fn put_answer(answer: Answer, id: u32, out: &mut [u8]) -> usize
-    requires { ⌜ 13 ≤ length (now out) ⌝ }
+    requires { ⌜ idRoom ≤ length (now out) ⌝ }
     ensures { λ r. ⌜ Written (answerLine answer id) r (now (out .entry)) (now (out .exit)) ⌝ }
 {
     match answer {
@@ -134,7 +135,7 @@ pub fn put_answer(answer: Answer, id: u32, out: &mut [u8]) -> usize
 
 // What a call prints that answers a verdict alone: nothing, if it was accepted.
 pub fn put_verdict(verdict: Verdict, out: &mut [u8]) -> usize
-    requires { ⌜ 5 ≤ length (now out) ⌝ }
+    requires { ⌜ refusalRoom ≤ length (now out) ⌝ }
     ensures { λ r. ⌜ Written (verdictLines verdict) r (now (out .entry)) (now (out .exit)) ⌝ }
 {
     match verdict {
@@ -157,7 +158,7 @@ pub fn put_releases(ids: &[u32], count: usize, out: &mut [u8]) -> usize
 
 // What a plan prints: each active leaf with its share, by rising number. 63 lines of 16 bytes fit in 1,008.
 pub fn put_shares(active: u64, shares: &[u32; 64], out: &mut [u8]) -> usize
-    requires { ⌜ 1008 ≤ length (now out) ⌝ }
+    requires { ⌜ sharesRoom ≤ length (now out) ⌝ }
     ensures { λ r. ⌜ Written (shareLinesOf active (now (shares .entry))) r (now (out .entry)) (now (out .exit)) ⌝ }
 {
     let mut at: usize = 0;

@@ -2,13 +2,14 @@
 // and E start at 0. Each function is one step; what a step does to one leaf is the crate leaf's.
 ghost use mathlib.Core.Path.{_≡_};
 ghost use mathlib.Core.Bool.{_&&_};
-ghost use Prim.Native.Nat.{_^_, _≤_, _<_};
+ghost use Prim.Native.Nat.{_≤_, _<_};
 ghost use Rattle.rules.specs.Numbers.{sinceMost};
 ghost use Rattle.rules.specs.Plan.{isQuiet, forgiven as forgivenOf, closed as closedOf, shared as sharedOf};
 ghost use Rattle.rules.specs.Refusals.{verdictNumber, due, planChecks};
 ghost use Rattle.rules.specs.Entries.{planned};
 ghost use Rattle.rules.specs.Invariant.{Sound};
 ghost use Rattle.leaf.specs.Alone.{staysWith, isDonorWith};
+ghost use Rattle.leaf.specs.Fit.{usageMost};
 ghost use Rattle.plan.specs.Sharing.{CanShare};
 ghost use Rattle.plan.specs.Steps.{usageOf, stayingOf, targetsOf, donorsOf, closedRows, Grows, Clears};
 use controller::shares::reshared;
@@ -33,7 +34,7 @@ use tree::shares::base_shares;
 
 // The usage of all leaves.
 fn usage_all(usages: [Abs; 64]) -> Abs
-    requires { ⌜ usageOf usages .0 ≤ 2 ^ 38 ⌝ }
+    requires { ⌜ usageOf usages .0 ≤ usageMost ⌝ }
     ensures { λ r. ⌜ r ≡ usageOf usages ⌝ }
 {
     let mut sum: u64 = 0;
@@ -48,7 +49,7 @@ fn usage_all(usages: [Abs; 64]) -> Abs
 
 // "If twice the usage of all leaves is below E".
 fn is_quiet(usage: Abs, since: Virt) -> bool
-    requires { ⌜ usage .0 ≤ 2 ^ 38 ⌝ }
+    requires { ⌜ usage .0 ≤ usageMost ⌝ }
     ensures { λ r. ⌜ r ≡ isQuiet usage since ⌝ }
 {
     let used = units::at_whole(usage);

@@ -108,9 +108,22 @@ leafMost = nodesMost - 1
 abbrev pub waitingMost : ℕ
 waitingMost = leafMost * queueRoom
 
--- the most that one record prints: a line r, an id of 10 digits and its blank, and a line feed for each
+-- ---- what a line takes at most: a refusal, R and two digits; an id of ten digits; a leaf of two and its share of ten
+abbrev pub refusalRoom : ℕ
+refusalRoom = 5
+
+abbrev pub idRoom : ℕ
+idRoom = 13
+
+abbrev pub shareRoom : ℕ
+shareRoom = 16
+
+-- all leaves' shares, and the most that one record prints: a line r for each bio that can wait
+abbrev pub sharesRoom : ℕ
+sharesRoom = leafMost * shareRoom
+
 abbrev pub lineRoom : ℕ
-lineRoom = waitingMost * 13
+lineRoom = waitingMost * idRoom
 
 -- ---- the letters I, W and D of the replay's lines: issued, waits, on debt
 abbrev pub letterI : ℕ

@@ -13,6 +13,7 @@ use Rattle.rules.specs.Trace.{readAt}
 use Rattle.rules.specs.Replay.{isStopped, readStep, nextPlace, stepped}
 use Rattle.rules.specs.Chunks.{Run, callOf, isCall, isRunning, runs, runFrom, isEnd, wantsBytes, halts, pauseOf, nothing, printedBefore, partFrom, part, fed}
 use Rattle.rules.specs.Invariant.{Playing}
+use Rattle.rules.specs.Buffers.{Stands, restOf, putBack}
 use Rattle.rules.specs.Laws.Bools.{true-not-false, and-left, and-right, or-not-left, or-not-right}
 use Rattle.rules.specs.Laws.Buffers.{stands-none, stands-kept, stands-rest, stands-fits, stands-more}
 use Rattle.rules.specs.Laws.Replays.{read-step-plays}
@@ -27,7 +28,6 @@ use Rattle.rules.specs.declared.replay.Phase.{Phase}
 use Rattle.rules.specs.declared.replay.Replay.{Replay}
 use Rattle.rules.specs.declared.replay.Pause.{Pause}
 use Rattle.rules.specs.declared.replay.Ran.{Ran}
-use Rattle.rules.specs.Buffers.{Stands, restOf, putBack}
 
 -- ---- one turn of a part
 module _ (f : ℕ) (last : Bool) (trace : List ℕ) (room at : ℕ) (s : Replay) where

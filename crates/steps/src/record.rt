@@ -3,6 +3,7 @@ ghost use mathlib.Core.Path.{_≡_};
 ghost use mathlib.Core.Bool.{false};
 ghost use Prim.Native.Nat.{_≤_, _<_};
 ghost use lib.ListN.{length};
+ghost use Rattle.rules.specs.Numbers.{refusalRoom};
 ghost use Rattle.rules.specs.Trace.{kindOf, readAt};
 ghost use Rattle.rules.specs.Replay.{stopsAt, inPhase, isStopped, recordStep, readStep};
 ghost use Rattle.rules.specs.Chunks.{runs};
@@ -28,7 +29,7 @@ pub(crate) struct After {
 
 // "After R in setup, or 16 to 18, it stops".
 pub(crate) fn stopped(x: Refusal, s: Replay, out: &mut [u8]) -> After
-    requires { ⌜ 5 ≤ length (now out) ⌝ }
+    requires { ⌜ refusalRoom ≤ length (now out) ⌝ }
     ensures { λ r. ⌜ Does (stopsAt x s) (r .count) (r .replay) (now (out .entry)) (now (out .exit)) ⌝ }
 {
     let tree = s.tree;
@@ -61,7 +62,7 @@ fn in_phase(phase: Phase, r: Record) -> bool
 
 // A record of setup in its phase. The others are calls, and none of them comes here: in its phase a call is run.
 fn carried(r: Record, s: Replay, out: &mut [u8]) -> After
-    requires { ⌜ Playing s × (5 ≤ length (now out)) × (kindOf r < 4) ⌝ }
+    requires { ⌜ Playing s × (refusalRoom ≤ length (now out)) × (kindOf r < 4) ⌝ }
     ensures { λ w. ⌜ Does (recordStep r s) (w .count) (w .replay) (now (out .entry)) (now (out .exit)) ⌝ }
 {
     match r {
@@ -85,7 +86,7 @@ pub(crate) fn is_stopped(phase: Phase) -> bool
 
 // What is read at a place, in a replay that has not stopped, if it is no call in its phase.
 pub(crate) fn went(read: Read, s: Replay, out: &mut [u8]) -> After
-    requires { ⌜ Playing s × (5 ≤ length (now out)) × (runs (s .phase) read ≡ false) ⌝ }
+    requires { ⌜ Playing s × (refusalRoom ≤ length (now out)) × (runs (s .phase) read ≡ false) ⌝ }
     ensures { λ r. ⌜ Does (readStep read s) (r .count) (r .replay) (now (out .entry)) (now (out .exit)) ⌝ }
 {
     match read {

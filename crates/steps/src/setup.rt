@@ -2,6 +2,7 @@
 ghost use mathlib.Core.Path.{_≡_};
 ghost use Prim.Native.Nat.{_≤_, _<_};
 ghost use lib.ListN.{length};
+ghost use Rattle.rules.specs.Numbers.{refusalRoom};
 ghost use Rattle.rules.specs.Replay.{grown as grownOf, recordStep};
 ghost use Rattle.rules.specs.Invariant.{Playing};
 ghost use Rattle.steps.specs.Went.{Does};
@@ -33,7 +34,7 @@ fn grown(mut tree: Tree, parent: u8, weight: u16) -> Tree
 
 // "In a trace a node record is checked for its own faults": those that start would find in the tree so far.
 pub(crate) fn node(parent: u8, weight: u16, mut s: Replay, out: &mut [u8]) -> After
-    requires { ⌜ Playing s × (5 ≤ length (now out)) ⌝ }
+    requires { ⌜ Playing s × (refusalRoom ≤ length (now out)) ⌝ }
     ensures { λ r. ⌜ Does (recordStep (Record.Node parent weight) s) (r .count) (r .replay) (now (out .entry)) (now (out .exit)) ⌝ }
 {
     let tree = s.tree;
@@ -53,7 +54,7 @@ pub(crate) fn node(parent: u8, weight: u16, mut s: Replay, out: &mut [u8]) -> Af
 }
 
 pub(crate) fn model(rates: Rates, s: Replay, out: &mut [u8]) -> After
-    requires { ⌜ 5 ≤ length (now out) ⌝ }
+    requires { ⌜ refusalRoom ≤ length (now out) ⌝ }
     ensures { λ r. ⌜ Does (recordStep (Record.Model rates) s) (r .count) (r .replay) (now (out .entry)) (now (out .exit)) ⌝ }
 {
     match cost::price(rates) {
@@ -75,7 +76,7 @@ pub(crate) fn model(rates: Rates, s: Replay, out: &mut [u8]) -> After
 }
 
 pub(crate) fn start(time: u64, s: Replay, out: &mut [u8]) -> After
-    requires { ⌜ 5 ≤ length (now out) ⌝ }
+    requires { ⌜ refusalRoom ≤ length (now out) ⌝ }
     ensures { λ r. ⌜ Does (recordStep (Record.Start time) s) (r .count) (r .replay) (now (out .entry)) (now (out .exit)) ⌝ }
 {
     let tree = s.tree;

@@ -13,6 +13,7 @@ use Rattle.rules.specs.Numbers.{WHOLE, nodesMost}
 use Rattle.rules.specs.Words.{sumTo, has, setOf}
 use Rattle.rules.specs.Units.{FLOOR}
 use Rattle.rules.specs.Tree.{parent, weight, last, isLeaf, isActive, childSum}
+use Rattle.rules.specs.Invariant.{SoundTree, Within}
 use Rattle.rules.specs.declared.tree.Tree.{Tree}
 use Rattle.rules.specs.Laws.Bools.{same-test, and-left, and-right, and-both}
 use Rattle.rules.specs.Laws.Sums.{sum-step}
@@ -20,7 +21,6 @@ use Rattle.rules.specs.Laws.Sets.{has-setOf, setOf-fits, has-node, set-cong, se
 use Rattle.rules.specs.Laws.Trees.{leaf-active, active-last, active-up, child-in, share-root, share-step, share-le}
 use Rattle.tree.specs.View.{treeOf, leavesIn, Lit, childSumIn, shareAmong}
 use Rattle.tree.proofs.View.{parent-at, weight-at, last-at}
-use Rattle.rules.specs.Invariant.{SoundTree, Within}
 
 -- ---- from the active leaves to the active nodes and back
 module _ {t : Tree} (sound : SoundTree t) (active : ℕ) (within : Within t active) (fits : active < 2 ^ nodesMost)

@@ -12,6 +12,7 @@ use borrow.Author.Tests.{eqb-true, eqb-false, lt-ltb, le-ltb}
 use Rattle.rules.specs.Numbers.{WHOLE, nodesMost, shareFloor}
 use Rattle.rules.specs.Words.{has, setOf, table}
 use Rattle.rules.specs.Tree.{last, isLeaf, leavesOf, isActive, shareOf, baseShare, baseShares, isThin}
+use Rattle.rules.specs.Invariant.{SoundTree, Within}
 use Rattle.rules.specs.declared.tree.Tree.{Tree}
 use Rattle.rules.specs.Laws.Bools.{true-not-false, and-both}
 use Rattle.rules.specs.Laws.Sums.{any-in, none-any}
@@ -23,7 +24,6 @@ use Rattle.sets.specs.Lowest.{Lowest}
 use Rattle.sets.specs.Visit.{LeftOf}
 use Rattle.tree.specs.View.{leavesIn, Lit}
 use Rattle.tree.proofs.Lit.{leaves-back, lit-here}
-use Rattle.rules.specs.Invariant.{SoundTree, Within}
 
 -- ---- a leaf of the set is asked for its share
 module _ {t : Tree} (sound : SoundTree t) (active : ℕ) (within : Within t active) (fits : active < 2 ^ nodesMost)

@@ -7,9 +7,9 @@ use native.Mathlib.Numerals.{add-one}
 use native.Mathlib.Omega.{arith}
 use lib.ListN.{getD}
 use Rattle.rules.specs.Tree.{parent, weight, last, level}
+use Rattle.rules.specs.Invariant.{SoundTree}
 use Rattle.rules.specs.Laws.Trees.{level-step}
 use Rattle.tree.specs.View.{treeOf, Climbs}
-use Rattle.rules.specs.Invariant.{SoundTree}
 
 module _ (count : ℕ) (ps ws : List ℕ) where
   pub parent-at : (n : ℕ) → 0 < n → parent (treeOf count ps ws) n ≡ getD ps n 0

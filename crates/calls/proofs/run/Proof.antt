@@ -13,6 +13,7 @@ use denote.Ref.{now}
 use Rattle.rules.specs.Numbers.{lineRoom}
 use Rattle.rules.specs.Replay.{answerLine, tickLines, verdictLines}
 use Rattle.rules.specs.Chunks.{isCall}
+use Rattle.rules.specs.Buffers.{Written, restOf, putBack}
 use Rattle.rules.specs.Laws.Buffers.{stands-left, stands-kept, stands-fits}
 use Rattle.rules.specs.declared.budget.Controller.{Controller}
 use Rattle.rules.specs.declared.replay.Call.{Call}
@@ -21,7 +22,6 @@ use Rattle.calls.proofs.Answered.{Answered, can-print, bio-answered, ti
 use Rattle.calls.proofs.Running.{Running, begun, goes, ends, asks, called, no-call, bio-is-call, tick-is-call, plan-is-call, set-is-call}
 use Rattle.calls.proofs.run.Statement.{statement}
 use Rattle.calls.proofs.run.Tie as tie
-use Rattle.rules.specs.Buffers.{Written, restOf, putBack}
 
 abbrev Inv-loop : tie.InvT-loop
 Inv-loop trace place most out₀ c₀ at₀ count₀ left₀ out c at count left = Running trace out₀ most place c₀ out c at count left

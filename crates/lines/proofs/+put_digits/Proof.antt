@@ -8,6 +8,7 @@ use lib.ListN.{length, set, length-append}
 use borrow.Author.Needs.{needs}
 use denote.Ref.{now}
 use Rattle.rules.specs.Replay.{digits}
+use Rattle.rules.specs.Buffers.{Written, Stands}
 use Rattle.rules.specs.Laws.Buffers.{stands-in, stands-byte, stands-first}
 use Rattle.rules.specs.Laws.Lines.{digits-short, digits-long}
 use borrow.Fn.Kinds.{In}
@@ -17,7 +18,6 @@ use Rattle.lines.proofs.put_digits.Kinds as kinds
 use Rattle.lines.proofs.+put_digits.Lts-put_digits as lts
 use Rattle.lines.proofs.+put_digits.{statement}
 use Rattle.lines.proofs.+put_digits.Tie.{close}
-use Rattle.rules.specs.Buffers.{Written, Stands}
 
 module _ (n : ℕ) (o₀ : List ℕ) (room : length (digits n) ≤ length o₀) where
   some : n < 10 → 0 < length o₀

@@ -7,11 +7,11 @@ use lib.ListN.{length, length-append}
 use borrow.Author.Needs.{needs}
 use denote.Ref.{now}
 use Rattle.rules.specs.Replay.{digits, line}
+use Rattle.rules.specs.Buffers.{Stands, putBack}
 use Rattle.rules.specs.Laws.Buffers.{stands-left, stands-rest, stands-more}
 use Rattle.rules.specs.Laws.Lines.{line-two, line-two-length}
 use Rattle.lines.proofs.put_line2.Statement.{statement}
 use Rattle.lines.proofs.put_line2.Tie as tie
-use Rattle.rules.specs.Buffers.{Stands, putBack}
 
 -- once the first number is written, there is room for the second; and at the end
 first-at : (c : tie.After-slice-known2) →

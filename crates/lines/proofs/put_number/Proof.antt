@@ -3,10 +3,10 @@
 use borrow.Author.Needs.{needs}
 use denote.Ref.{now}
 use Rattle.rules.specs.Replay.{digits}
+use Rattle.rules.specs.Buffers.{Stands}
 use Rattle.rules.specs.Laws.Buffers.{stands-byte}
 use Rattle.lines.proofs.put_number.Statement.{statement}
 use Rattle.lines.proofs.put_number.Tie as tie
-use Rattle.rules.specs.Buffers.{Stands}
 
 put-digits-requires : tie.Need-put-digits-requires
 put-digits-requires c κs = search needs

@@ -8,11 +8,11 @@ use lib.ListN.{length, take, getD}
 use borrow.Author.Needs.{needs}
 use denote.Ref.{now}
 use Rattle.rules.specs.Replay.{line, releaseLines}
+use Rattle.rules.specs.Buffers.{Written, Stands, restOf, putBack}
 use Rattle.rules.specs.Laws.Buffers.{stands-none, stands-kept, stands-left, stands-rest, stands-more}
 use Rattle.rules.specs.Laws.Lines.{releases-next}
 use Rattle.lines.proofs.put_releases.Statement.{statement}
 use Rattle.lines.proofs.put_releases.Tie as tie
-use Rattle.rules.specs.Buffers.{Written, Stands, restOf, putBack}
 
 record Inv (ids o₀ o : List ℕ) (count at i : ℕ) : Type 0 where
   upto : i ≤ count

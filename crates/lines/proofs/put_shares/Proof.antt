@@ -7,11 +7,11 @@ use native.Mathlib.Omega.{arith}
 use lib.ListN.{length, getD}
 use borrow.Author.Needs.{needs}
 use denote.Ref.{now}
+use Rattle.rules.specs.Buffers.{Written, Stands, restOf, putBack}
 use Rattle.rules.specs.Laws.Buffers.{stands-none, stands-kept, stands-left, stands-rest, stands-more}
 use Rattle.rules.specs.Laws.Lines.{shares-none, shares-next}
 use Rattle.lines.proofs.put_shares.Statement.{statement}
 use Rattle.lines.proofs.put_shares.Tie as tie
-use Rattle.rules.specs.Buffers.{Written, Stands, restOf, putBack}
 use Rattle.rules.specs.Replay.{leafLine, shareLinesTo, shareLinesOf}
 
 record Inv (active : ℕ) (shares o₀ o : List ℕ) (at n : ℕ) : Type 0 where

@@ -7,10 +7,10 @@ use lib.ListN.{set, length-set, length-append}
 use borrow.Author.Needs.{needs}
 use denote.Ref.{now}
 use Rattle.rules.specs.Replay.{digits}
+use Rattle.rules.specs.Buffers.{Stands, putBack}
 use Rattle.rules.specs.Laws.Buffers.{stands-kept, stands-rest, stands-more, stands-byte, stands-first}
 use Rattle.lines.proofs.put_start.Statement.{statement}
 use Rattle.lines.proofs.put_start.Tie as tie
-use Rattle.rules.specs.Buffers.{Stands, putBack}
 
 -- once the letter and the blank are written, and the number behind them
 begun-at : (c : tie.After-slice-known) →

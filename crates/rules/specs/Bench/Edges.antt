@@ -1,22 +1,23 @@
--- Numbers at their edges: each limit of document 01, on it and one past it, and of each rule small cases that B1 to B12 and the
--- run do not reach, so that a slip of the rule gives another number here.
+-- Numbers of their own for every rule, so that a slip of it gives another number here: each limit of document 01 on it and one
+-- past it, whole books after each call, prices of devices, what the ledger makes of the calls, the replay by its parts, and a
+-- trace with lines of every kind.
 -- Assumes nothing.
 use mathlib.Core.Path.{_≡_, refl}
 use mathlib.Core.Bool.{Bool, true, false, cond, _&&_}
 use mathlib.Core.List.{List, [], _∷_, _++_}
 use Prim.Native.Nat.{ℕ, _+_, _-_, _*_, _^_}
 use lib.Dec.{eqb}
-use lib.ListN.{getD, replicate, take}
+use lib.ListN.{length, getD, replicate, take}
 use Rattle.rules.specs.Words.{tableFrom, has, noNode}
 use Rattle.rules.specs.Units.{abs, virt}
 use Rattle.rules.specs.Cost.{bpsInRange, iopsInRange, bytesInRange, sectorInRange, flagsInRange, isNear, priced}
 use Rattle.rules.specs.Tree.{countInRange, weightInRange, treeFault, newestFault, leavesOf, baseShares}
-use Rattle.rules.specs.Budget.{emptyQueue, emptyRow, fresh, rowAt, queueAt, shareAt, withClock, withSharing, withBooks, putLeaf, reshared, withBudget, withDebt, withUsage}
+use Rattle.rules.specs.Budget.{emptyQueue, emptyRow, fresh, rowAt, queueAt, shareAt, withClock, withSharing, withBooks, putLeaf, withBudget, withDebt, withUsage, withAccepted, withEnd, reshared}
 use Rattle.rules.specs.Tick.{growth, capped, turn, releases, waitingAll}
 use Rattle.rules.specs.Plan.{usageAll, isQuiet, targetOf, isDonor, sumOver, quietIn, vrateInRange}
 use Rattle.rules.specs.Refusals.{Check, firstOf, isFault, verdictNumber, readNumber, writeNumber, modelValues, costChecks, roomChecks, tickChecks, planChecks}
 use Rattle.rules.specs.Entries.{costing, started, submitted, ticked, lentOf, planned, vrated, toVrate, slowest}
-use Rattle.rules.specs.Trace.{recordBytes, writing, readAt}
+use Rattle.rules.specs.Trace.{layouts, recordBytes, writing, readAt}
 use Rattle.rules.specs.Replay.{digits, shareLines, inPhase, beginning, grown, Step, stepped, nextPlace, tickCall, replay, within, rootTree}
 use Rattle.rules.specs.Ledger.{Call, costWaiting, costOfFirst, waiting, owed, costOn, releasedAt, repaidAt, forgivenAt, accepted, issued, released, repaid, forgiven, generated, charged, saved}
 use Rattle.rules.specs.declared.cost.Price.{Price}
@@ -38,7 +39,7 @@ use Rattle.rules.specs.declared.replay.Replay.{Replay}
 use Rattle.rules.specs.Bench.Run.{runTree}
 use Rattle.rules.specs.Bench.{computed, bytesOfAll, B, ratesM, M, bio, atZero, costNumber, tree, tree5, tree6, tree7, clockAt, running, saved as savedRow, used, state9, letter, plan10, allRight, Case}
 
--- ---- the edges: each number of document 01, on it and one past it, and small cases of what B1 to B12 do not reach
+-- ---- the edges
 abbrev is : Bool → Case
 is t = B 0 (cond t 1 0) 1
 
@@ -92,6 +93,10 @@ rated vrate = clockAt 0 0 0 vrate
 later : Controller
 later = ticked 250 [] (ticked 100 [] (clocked 0 0 0) .state) .state
 
+-- one behind the last kind
+abbrev noKind : ℕ
+noKind = length layouts + 1
+
 -- what a read at a place, and a tick's record in so many places, are refused
 abbrev read : List ℕ → ℕ → ℕ
 read trace at = readNumber (readAt trace at)
@@ -143,14 +148,14 @@ edges =
     ∷ B 0 (targetOf (virt 100) (abs 1000)) 1342177280
     ∷ B 0 (costNumber (costing M atZero (bio 1 1 4096))) 40000
     ∷ isNot (isFault (treeFault (tree 2 (0 ∷ []) (1 ∷ [])))) ∷ is (isFault (treeFault (tree 2 (1 ∷ []) (1 ∷ []))))
-    ∷ B 0 (read (1 ∷ 0 ∷ 1 ∷ 0 ∷ []) 0) 0 ∷ B 0 (read (7 ∷ 1 ∷ 0 ∷ []) 0) 0 ∷ B 0 (read (0 ∷ []) 0) 16 ∷ B 0 (read (8 ∷ []) 0) 16
+    ∷ B 0 (read (1 ∷ 0 ∷ 1 ∷ 0 ∷ []) 0) 0 ∷ B 0 (read (7 ∷ 1 ∷ 0 ∷ []) 0) 0 ∷ B 0 (read (0 ∷ []) 0) 16 ∷ B 0 (read (noKind ∷ []) 0) 16
     ∷ B 0 (read (1 ∷ 0 ∷ 1 ∷ []) 0) 17 ∷ B 0 (read (1 ∷ 0 ∷ 1 ∷ 0 ∷ []) 4) 0 ∷ B 0 (read (1 ∷ 0 ∷ 1 ∷ 0 ∷ []) 5) 17
     ∷ B 0 (leavesOf (tree7 1023)) 28 ∷ B 0 (leavesOf (chain 8)) 256
     ∷ B 0 (written 9) 0 ∷ B 0 (written 8) 28
     ∷ isNot (rowAt plan10 2 .accepted)
     ∷ is (isDonor 1023 1024 emptyRow emptyQueue) ∷ isNot (isDonor 1024 1024 emptyRow emptyQueue)
     ∷ isNot (isDonor 1023 1024 (owing 1) emptyQueue) ∷ isNot (isDonor 1023 1024 emptyRow (holding 1))
-    ∷ B 0 (first (8 ∷ [])) 54 ∷ B 0 (first (5 ∷ [])) 55 ∷ B 0 (first (recordBytes (Tick 0))) 56
+    ∷ B 0 (first (noKind ∷ [])) 54 ∷ B 0 (first (5 ∷ [])) 55 ∷ B 0 (first (recordBytes (Tick 0))) 56
     ∷ []
 
 pub edges-hold : allRight edges ≡ true
@@ -204,7 +209,7 @@ topNumbers c =
 abbrev bookNumbers : Controller → List ℕ
 bookNumbers c = topNumbers c ++ leafNumbers c 1 ++ leafNumbers c 2 ++ leafNumbers c 3
 
--- three equal leaves, of which 1 takes, 2 gives and 3 is not active; no two numbers of the books are the same
+-- three equal leaves, of which 1 takes, 2 gives and 3 is not active; a number of the books differs from those beside it
 abbrev ring : ℕ → ℕ → ℕ → Queue
 ring from head len = record { ids = tableFrom (λ i. i) from 8; costs = tableFrom (λ i. abs (20000 + i)) from 8; head = head; len = len }
 
@@ -221,20 +226,20 @@ state6 row₁ queue₁ =
 
 -- leaf 1 has saved; waits for three, over the ring's end; owes; owes and waits
 saved6 : Controller
-saved6 = state6 (row 400000 0 7 8 true false) (ring 1 7 0)
+saved6 = state6 (row 400000 0 7 40 true false) (ring 1 7 0)
 
 waits6 : Controller
-waits6 = state6 (row 30000 0 7 8 true false) (ring 1 7 3)
+waits6 = state6 (row 30000 0 7 40 true false) (ring 1 7 3)
 
 owes6 : Controller
-owes6 = state6 (row 0 50000 7 8 true false) (ring 1 7 1)
+owes6 = state6 (row 0 50000 7 40 true false) (ring 1 7 1)
 
 both6 : Controller
-both6 = state6 (row 0 10000 7 8 true false) (record { ids = ring 1 7 1 .ids; costs = replicate 8 (abs 5000); head = 7; len = 1 })
+both6 = state6 (row 0 10000 7 40 true false) (record { ids = ring 1 7 1 .ids; costs = replicate 8 (abs 5000); head = 7; len = 1 })
 
 -- 7 is owed, of which a quiet plan forgives 3
 small6 : Controller
-small6 = state6 (row 400000 7 7 8 true false) (ring 1 7 0)
+small6 = state6 (row 400000 7 7 40 true false) (ring 1 7 0)
 
 -- leaf 2 has used 15,000 of 50,000, and leaf 3, which is not active, had a bio accepted or not
 abbrev more6 : Bool → Controller
@@ -257,7 +262,7 @@ then b c = bookNumbers (submitted b c .state)
 
 -- leaves 2 and 3 of `state6`, and 1 in `saved6`, where a call leaves them alone
 abbrev leaf1 : List ℕ
-leaf1 = 873741824 ∷ 400000 ∷ 0 ∷ 7 ∷ 8 ∷ 1 ∷ 0 ∷ 7 ∷ 0 ∷ []
+leaf1 = 873741824 ∷ 400000 ∷ 0 ∷ 7 ∷ 40 ∷ 1 ∷ 0 ∷ 7 ∷ 0 ∷ []
 
 abbrev leaf2 : List ℕ
 leaf2 = 200000000 ∷ 900000 ∷ 0 ∷ 13 ∷ 16 ∷ 0 ∷ 1 ∷ 3 ∷ 0 ∷ []
@@ -277,7 +282,9 @@ books =
     -- a part of a row is set, and the others stay
     ∷ see (rowNumbers (withBudget (virt 9) (row 1 2 3 4 true false)) ++ rowNumbers (withDebt (abs 9) (row 1 2 3 4 false true)))
     (9 ∷ 2 ∷ 3 ∷ 4 ∷ 1 ∷ 0 ∷ 1 ∷ 9 ∷ 3 ∷ 4 ∷ 0 ∷ 1 ∷ [])
-    ∷ see (rowNumbers (withUsage (abs 9) (row 1 2 3 4 true false))) (1 ∷ 2 ∷ 9 ∷ 4 ∷ 1 ∷ 0 ∷ [])
+    ∷ see (rowNumbers (withUsage (abs 9) (row 1 2 3 4 true false)) ++ rowNumbers (withAccepted true (row 1 2 3 4 false false)))
+    (1 ∷ 2 ∷ 9 ∷ 4 ∷ 1 ∷ 0 ∷ 1 ∷ 2 ∷ 3 ∷ 4 ∷ 0 ∷ 1 ∷ [])
+    ∷ see (rowNumbers (withEnd 9 (row 1 2 3 4 false false))) (1 ∷ 2 ∷ 3 ∷ 9 ∷ 1 ∷ 0 ∷ [])
     -- vrate alone is set
     ∷ see (bookNumbers (vrated 300 saved6 .state)) (1000 ∷ 70000 ∷ 50000 ∷ 300 ∷ 14 ∷ 6 ∷ 4 ∷ leaf1 ++ leaf2 ++ leaf3)
     -- a taker's bio is issued, 20,000 at its share; waits; goes on debt: the donation stands, and no other leaf is touched
@@ -294,27 +301,27 @@ books =
     -- base shares: 900,000 x 200,000,000 / 536,870,912
     ∷ see (then (bio 2 0 512) saved6) (top 6 4 ++ leaf1 ++ (200000000 ∷ 363129 ∷ 0 ∷ 100013 ∷ 1 ∷ 1 ∷ 1 ∷ 3 ∷ 0 ∷ leaf3))
     ∷ see (then (bio 2 0 1048576) saved6)
-    (top 6 0 ++ (536870912 ∷ 400000 ∷ 0 ∷ 7 ∷ 8 ∷ 1 ∷ 0 ∷ 7 ∷ 0 ∷ 536870912 ∷ 335276 ∷ 0 ∷ 13 ∷ 2048 ∷ 1 ∷ 1 ∷ 3 ∷ 1 ∷ leaf3))
+    (top 6 0 ++ (536870912 ∷ 400000 ∷ 0 ∷ 7 ∷ 40 ∷ 1 ∷ 0 ∷ 7 ∷ 0 ∷ 536870912 ∷ 335276 ∷ 0 ∷ 13 ∷ 2048 ∷ 1 ∷ 1 ∷ 3 ∷ 1 ∷ leaf3))
     ∷ see (then (bio 2 2 1048576) saved6)
-    (top 6 0 ++ (536870912 ∷ 400000 ∷ 0 ∷ 7 ∷ 8 ∷ 1 ∷ 0 ∷ 7 ∷ 0 ∷ 536870912 ∷ 335276 ∷ 2650000 ∷ 13 ∷ 2048 ∷ 1 ∷ 1 ∷ 3 ∷ 0 ∷ leaf3))
+    (top 6 0 ++ (536870912 ∷ 400000 ∷ 0 ∷ 7 ∷ 40 ∷ 1 ∷ 0 ∷ 7 ∷ 0 ∷ 536870912 ∷ 335276 ∷ 2650000 ∷ 13 ∷ 2048 ∷ 1 ∷ 1 ∷ 3 ∷ 0 ∷ leaf3))
     -- an activation ends it too: 900,000 x 200,000,000 / 357,913,941, with no share between
     ∷ see (then (bio 3 0 4096) saved6)
-    (top 14 0 ++ (357913941 ∷ 400000 ∷ 0 ∷ 7 ∷ 8 ∷ 1 ∷ 0 ∷ 7 ∷ 0 ∷ 357913941 ∷ 502914 ∷ 0 ∷ 13 ∷ 16 ∷ 0 ∷ 1 ∷ 3 ∷ 0
+    (top 14 0 ++ (357913941 ∷ 400000 ∷ 0 ∷ 7 ∷ 40 ∷ 1 ∷ 0 ∷ 7 ∷ 0 ∷ 357913941 ∷ 502914 ∷ 0 ∷ 13 ∷ 16 ∷ 0 ∷ 1 ∷ 3 ∷ 0
     ∷ 357913941 ∷ 0 ∷ 0 ∷ 19 ∷ 8 ∷ 1 ∷ 1 ∷ 0 ∷ 1 ∷ []))
     ∷ see (then (bio 3 2 4096) saved6)
-    (top 14 0 ++ (357913941 ∷ 400000 ∷ 0 ∷ 7 ∷ 8 ∷ 1 ∷ 0 ∷ 7 ∷ 0 ∷ 357913941 ∷ 502914 ∷ 0 ∷ 13 ∷ 16 ∷ 0 ∷ 1 ∷ 3 ∷ 0
+    (top 14 0 ++ (357913941 ∷ 400000 ∷ 0 ∷ 7 ∷ 40 ∷ 1 ∷ 0 ∷ 7 ∷ 0 ∷ 357913941 ∷ 502914 ∷ 0 ∷ 13 ∷ 16 ∷ 0 ∷ 1 ∷ 3 ∷ 0
     ∷ 357913941 ∷ 0 ∷ 20000 ∷ 19 ∷ 8 ∷ 1 ∷ 1 ∷ 0 ∷ 0 ∷ []))
     -- the bio goes behind the youngest, over the ring's end, with its cost; the places out of use stay
     ∷ see (queueNumbers (queueAt (submitted (bio 1 0 8192) waits6 .state) 1))
     (7 ∷ 4 ∷ 1 ∷ 2 ∷ 7 ∷ 4 ∷ 5 ∷ 6 ∷ 7 ∷ 8 ∷ 20001 ∷ 20002 ∷ 30000 ∷ 20004 ∷ 20005 ∷ 20006 ∷ 20007 ∷ 20008 ∷ [])
     -- a tick of 20,000: two of three fit at the share, oldest first, and what is left is saved
     ∷ see (bookNumbers (ticked 11000 (9 ∷ 9 ∷ 9 ∷ []) waits6 .state))
-    (11000 ∷ 90000 ∷ 70000 ∷ 200 ∷ 14 ∷ 6 ∷ 4 ∷ 873741824 ∷ 832 ∷ 0 ∷ 40016 ∷ 8 ∷ 1 ∷ 0 ∷ 1 ∷ 1
+    (11000 ∷ 90000 ∷ 70000 ∷ 200 ∷ 14 ∷ 6 ∷ 4 ∷ 873741824 ∷ 832 ∷ 0 ∷ 40016 ∷ 40 ∷ 1 ∷ 0 ∷ 1 ∷ 1
     ∷ 200000000 ∷ 920000 ∷ 0 ∷ 13 ∷ 16 ∷ 0 ∷ 1 ∷ 3 ∷ 0 ∷ leaf3)
     ∷ see (lentOf 11000 (9 ∷ 9 ∷ 9 ∷ []) waits6) (8 ∷ 1 ∷ 9 ∷ [])
     -- a part is repaid, and nothing is released; all is repaid, and then the waiter is released
-    ∷ see (leafNumbers (ticked 11000 (9 ∷ []) owes6 .state) 1) (873741824 ∷ 0 ∷ 33726 ∷ 16281 ∷ 8 ∷ 1 ∷ 0 ∷ 7 ∷ 1 ∷ [])
-    ∷ see (leafNumbers (ticked 11000 (9 ∷ []) both6 .state) 1) (873741824 ∷ 1565 ∷ 0 ∷ 15007 ∷ 8 ∷ 1 ∷ 0 ∷ 0 ∷ 0 ∷ [])
+    ∷ see (leafNumbers (ticked 11000 (9 ∷ []) owes6 .state) 1) (873741824 ∷ 0 ∷ 33726 ∷ 16281 ∷ 40 ∷ 1 ∷ 0 ∷ 7 ∷ 1 ∷ [])
+    ∷ see (leafNumbers (ticked 11000 (9 ∷ []) both6 .state) 1) (873741824 ∷ 1565 ∷ 0 ∷ 15007 ∷ 40 ∷ 1 ∷ 0 ∷ 0 ∷ 0 ∷ [])
     -- what is left after a part is repaid releases nothing, however little a waiter costs
     ∷ see (turn (virt 3) (2 ^ 28) (owing 100) (holding 1) .ids) []
     -- the cap comes last: the waiter is released first, and what is then left is capped
@@ -323,14 +330,14 @@ books =
     ∷ see (rowNumbers (capped (row (2 ^ 27 + 1) 1 2 3 true false) emptyQueue)) ((2 ^ 27 + 1) ∷ 1 ∷ 2 ∷ 3 ∷ 1 ∷ 0 ∷ [])
     -- a quiet plan: leaf 1 goes inactive, and leaf 2, alone, holds all: 900,000 x 200,000,000 / 2^30
     ∷ see (bookNumbers (planned saved6 .state))
-    (1000 ∷ 70000 ∷ 0 ∷ 200 ∷ 14 ∷ 4 ∷ 0 ∷ 0 ∷ 0 ∷ 0 ∷ 0 ∷ 8 ∷ 1 ∷ 0 ∷ 7 ∷ 0
+    (1000 ∷ 70000 ∷ 0 ∷ 200 ∷ 14 ∷ 4 ∷ 0 ∷ 0 ∷ 0 ∷ 0 ∷ 0 ∷ 40 ∷ 1 ∷ 0 ∷ 7 ∷ 0
     ∷ 1073741824 ∷ 167638 ∷ 0 ∷ 0 ∷ 16 ∷ 0 ∷ 0 ∷ 3 ∷ 0 ∷ 0 ∷ 0 ∷ 0 ∷ 0 ∷ 24 ∷ 1 ∷ 0 ∷ 0 ∷ 0 ∷ [])
     -- leaf 1 owes, so it stays and gives nothing; leaf 2 gives more than before, and its budget stays, with no share between
     ∷ see (bookNumbers (planned small6 .state))
-    (1000 ∷ 70000 ∷ 0 ∷ 200 ∷ 14 ∷ 6 ∷ 4 ∷ 1073392858 ∷ 325600 ∷ 4 ∷ 0 ∷ 8 ∷ 1 ∷ 0 ∷ 7 ∷ 0
+    (1000 ∷ 70000 ∷ 0 ∷ 200 ∷ 14 ∷ 6 ∷ 4 ∷ 1073392858 ∷ 325600 ∷ 4 ∷ 0 ∷ 40 ∷ 1 ∷ 0 ∷ 7 ∷ 0
     ∷ 348966 ∷ 900000 ∷ 0 ∷ 0 ∷ 16 ∷ 0 ∷ 0 ∷ 3 ∷ 0 ∷ 0 ∷ 0 ∷ 0 ∷ 0 ∷ 24 ∷ 1 ∷ 0 ∷ 0 ∷ 0 ∷ [])
     -- a leaf that waits stays and gives nothing, though no bio of it was accepted
-    ∷ see (leafNumbers (planned waits6 .state) 1) (1073392858 ∷ 24420 ∷ 0 ∷ 0 ∷ 8 ∷ 1 ∷ 0 ∷ 7 ∷ 3 ∷ [])
+    ∷ see (leafNumbers (planned waits6 .state) 1) (1073392858 ∷ 24420 ∷ 0 ∷ 0 ∷ 40 ∷ 1 ∷ 0 ∷ 7 ∷ 3 ∷ [])
     -- who gives is judged at its base share, not at the share held: leaf 2 gives less than before
     ∷ see (planned (more6 true) .state .donors ∷ take 3 (planned (more6 true) .state .shares)) (4 ∷ 0 ∷ 671088639 ∷ 402653185 ∷ [])
     ∷ see (rowNumbers (rowAt (planned (more6 true) .state) 2)) (447034 ∷ 0 ∷ 0 ∷ 16 ∷ 0 ∷ 0 ∷ [])
@@ -440,21 +447,23 @@ parts =
     ∷ phaseNumber (after (Node 0 0) Priced .replay .phase)
     ∷ phaseNumber (after (ModelOf (ratesM 1)) Setup .replay .phase)
     ∷ phaseNumber (after (ModelOf (ratesM 0)) Setup .replay .phase)
+    ∷ phaseNumber (stepped (Found (Start 0) 9) (within Priced (grown 0 5 rootTree) slowest (beginning .state)) .replay .phase)
     ∷ phaseNumber (after (Start 0) Priced .replay .phase)
     ∷ phaseNumber (after Plan Running .replay .phase)
     ∷ phaseNumber (after (Vrate 0) Running .replay .phase)
     ∷ phaseNumber (after (Tick 0) Setup .replay .phase)
     ∷ phaseNumber (stepped (readAt (0 ∷ []) 0) (at Running) .replay .phase)
+    ∷ phaseNumber (stepped (readAt (5 ∷ []) 0) (at Running) .replay .phase)
     ∷ phaseNumber (stepped (readAt [] 0) (at Running) .replay .phase)
     ∷ []
-    ) (0 ∷ 1 ∷ 3 ∷ 1 ∷ 3 ∷ 3 ∷ 2 ∷ 2 ∷ 3 ∷ 3 ∷ 2 ∷ [])
+    ) (0 ∷ 1 ∷ 3 ∷ 1 ∷ 3 ∷ 2 ∷ 3 ∷ 2 ∷ 2 ∷ 3 ∷ 3 ∷ 3 ∷ 2 ∷ [])
     ∷ see (after (ModelOf (ratesM 50000)) Setup .replay .rates .rseqiops ∷ after (Node 0 5) Setup .replay .rates .rseqiops ∷ []) (50000 ∷ 1 ∷ [])
     -- a bio that is refused 7 prints its number, and the replay goes on
     ∷ see (refused7 .bytes ++ (phaseNumber (refused7 .replay .phase) ∷ [])) (82 ∷ 32 ∷ 55 ∷ 10 ∷ 2 ∷ [])
     -- a replay that has stopped reads and prints no more
     ∷ see (after Plan Stopped .bytes ++ stepped (readAt (0 ∷ []) 0) (at Stopped) .bytes) []
     -- the next record begins behind the last; there is none at the end, nor where nothing can be read
-    ∷ see (nextPlace (Found Plan 9) 8 ∷ nextPlace (readAt [] 0) 0 ∷ nextPlace (readAt (0 ∷ []) 0) 0 ∷ []) (9 ∷ 0 ∷ 0 ∷ [])
+    ∷ see (nextPlace (Found Plan 9) 8 ∷ nextPlace (readAt (1 ∷ []) 1) 1 ∷ nextPlace (readAt (1 ∷ 0 ∷ []) 1) 1 ∷ []) (9 ∷ 1 ∷ 1 ∷ [])
     -- a tick is lent room for all 504 that can wait
     ∷ see (tickCall 0 crowded .bytes) []
     ∷ []

@@ -4,13 +4,13 @@ use mathlib.Core.Path.{_≡_, refl}
 use mathlib.Core.List.{List, [], _∷_, _++_}
 use Prim.Native.Nat.{ℕ, _+_, _-_, _^_}
 use lib.ListN.{replicate, take}
-use Rattle.rules.specs.Ledger.{Call, after}
 use Rattle.rules.specs.Numbers.{nodesMost}
 use Rattle.rules.specs.Units.{virt}
 use Rattle.rules.specs.Budget.{rowAt, shareAt, withClock, withTimes}
 use Rattle.rules.specs.Tick.{tick}
 use Rattle.rules.specs.Plan.{plan}
 use Rattle.rules.specs.Entries.{started, submitted, ticked, lentOf, planned, toVrate, setBy}
+use Rattle.rules.specs.Ledger.{Call, after}
 use Rattle.rules.specs.declared.cost.Rates.{Rates}
 use Rattle.rules.specs.declared.tree.Tree.{Tree}
 use Rattle.rules.specs.declared.budget.Controller.{Controller}

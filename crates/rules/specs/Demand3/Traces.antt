@@ -13,10 +13,10 @@ use Rattle.rules.specs.Replay.{Step, silent, stopsAt, Called, bioCall, t
 use Rattle.rules.specs.Chunks.{callOf, isCall}
 use Rattle.rules.specs.Ledger.{Call, after, generated, charged}
 use Rattle.rules.specs.Demand3.Sentences.{run, sumOf, never-overspent}
+use Rattle.rules.specs.Laws.Replays.{unread-stops, out-of-phase-stops, in-phase-is-carried-out}
 use Rattle.rules.specs.declared.cost.Rates.{Rates}
 use Rattle.rules.specs.declared.tree.Tree.{Tree}
 use Rattle.rules.specs.declared.budget.Controller.{Controller}
-use Rattle.rules.specs.Laws.Replays.{unread-stops, out-of-phase-stops, in-phase-is-carried-out}
 use Rattle.rules.specs.declared.refusals.Refusal.{Refusal}
 use Rattle.rules.specs.declared.refusals.Refusal.the-variants.{WrongPhase}
 use Rattle.rules.specs.declared.refusals.Verdict.{Verdict}
@@ -188,7 +188,8 @@ steps-reach trace (suc n) place s h = steps-reach trace n _ _ (step-reaches (rea
 pub every-state-of-a-replay-is-reached : (trace : List ℕ) (n : ℕ) → Reached (replayAfter n trace 0 beginning .state)
 every-state-of-a-replay-is-reached trace n = steps-reach trace n 0 beginning beginning-reached
 
--- ---- and demand 3 of every trace: what its calls charge is at most what its ticks generate
+-- ---- and demand 3 of every trace: what the calls that it holds charge is at most what its ticks generate, upon the state of any
+-- start; of its own, by `a-replay-goes-by-its-calls-from-start-on`, these are the states that the replay goes through
 pub no-trace-overspends : (trace : List ℕ) (n place time : ℕ) (tree : Tree) (rates : Rates)
     → sumOf charged (callsFrom n trace place) (started tree rates time .state) ≤ sumOf generated (callsFrom n trace place) (started tree rates time .state)
 no-trace-overspends trace n place time tree rates = never-overspent tree rates time (callsFrom n trace place)

@@ -6,6 +6,7 @@ use borrow.Author.Needs.{needs}
 use Rattle.rules.specs.Tree.{treeFault}
 use Rattle.rules.specs.Refusals.{isFault}
 use Rattle.rules.specs.Entries.{treeVerdict}
+use Rattle.rules.specs.Invariant.{SoundTree}
 use Rattle.rules.specs.declared.tree.Tree.{Tree}
 use Rattle.rules.specs.declared.tree.Fault.{Fault}
 use Rattle.rules.specs.declared.refusals.Refusal.the-variants.{BadTree}
@@ -15,7 +16,6 @@ use Rattle.rules.specs.Laws.Refusals.{check-on-paper}
 use Rattle.rules.specs.Laws.TreeVerdicts.{sound-when, bad-tree, thin-tree, fine-tree}
 use Rattle.tree.proofs.check.Statement.{statement}
 use Rattle.tree.proofs.check.Tie as tie
-use Rattle.rules.specs.Invariant.{SoundTree}
 
 -- what was found, by the tree itself
 module _ (t : Tree) {found : Fault} (e : found ≡ treeFault t) {b : Bool} (i : b ≡ isFault found) where

@@ -10,12 +10,12 @@ use mir.Val.{Fits}
 use Rattle.rules.specs.Numbers.{pageBytes, bytesMost}
 use Rattle.rules.specs.Units.{abs, CEIL}
 use Rattle.rules.specs.Cost.{costAt}
+use Rattle.rules.specs.Invariant.{SoundPrice}
 use Rattle.rules.specs.Laws.Costs.{pagesMost, base-cost-most, page-costs-most}
 use Rattle.rules.specs.declared.units.Abs.{Abs}
 use Rattle.rules.specs.declared.cost.Price.{Price}
 use Rattle.cost.proofs.bio.cost_at.Statement.{statement}
 use Rattle.cost.proofs.bio.cost_at.Tie as tie
-use Rattle.rules.specs.Invariant.{SoundPrice}
 
 few : (bytes pages : ℕ) → bytes ≤ bytesMost → pages ≡ CEIL bytes pageBytes → pages ≤ pagesMost
 unfolding CEIL

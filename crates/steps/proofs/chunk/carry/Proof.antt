@@ -9,10 +9,10 @@ use lib.ListN.{length, take, drop, set, getD, length-drop}
 use lib.Seq.{take-suc, getD-drop, getD-append-add}
 use borrow.Author.Needs.{needs}
 use denote.Ref.{now}
+use Rattle.rules.specs.Buffers.{Stands}
 use Rattle.rules.specs.Laws.Buffers.{stands-none, stands-kept, stands-byte}
 use Rattle.steps.proofs.chunk.carry.Statement.{statement}
 use Rattle.steps.proofs.chunk.carry.Tie as tie
-use Rattle.rules.specs.Buffers.{Stands}
 
 record Inv (o₀ o : List ℕ) (from count i : ℕ) : Type 0 where
   upto : i ≤ count
