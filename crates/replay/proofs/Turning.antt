@@ -2,7 +2,7 @@
 -- at the front, and a turn of these.
 -- Assumes nothing.
 use mathlib.Core.Path.{_≡_, refl, sym, ap, subst, _∙_}
-use mathlib.Core.Bool.{true}
+use mathlib.Core.Bool.{true, false}
 use mathlib.Core.List.{List, [], _++_, append-nil}
 use Prim.Native.Nat.{ℕ, _+_, _-_, _≤_}
 use native.Mathlib.Omega.{arith}
@@ -83,7 +83,7 @@ left-in-front chunk after from to h l e =
 
 -- a turn of its steps
 pub turns : {s a r : Standing} {chunk mid after out₀ out : List ℕ} {f : Fed} {taken : ℕ} → Replayed s chunk out₀ out f
-    → Carried f taken s chunk a mid → Onward (f .pause) a mid r after → ((r .end ≡ Unwritten → ⊥) → taken ≡ f .count)
+    → Carried f taken s chunk a mid → Onward (f .pause) a mid r after → ((r .going ≡ false → r .end ≡ Unwritten → ⊥) → taken ≡ f .count)
     → Turned s chunk (length out₀) r after
 unfolding fed
 turns {s} {a} {r} {chunk} {mid} {after} {out₀} p k o all-taken =

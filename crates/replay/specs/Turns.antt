@@ -29,9 +29,9 @@ Stands s room = Playing (s .replay) × (s .filled ≤ room)
 abbrev pub waiting : Standing → List ℕ → List ℕ
 waiting s chunk = take (s .filled) chunk
 
--- ---- a run that ends so keeps what it has
+-- ---- a run that ends so keeps what it has, and goes on no more
 abbrev pub Ended : End → Standing → Standing → Type 0
-Ended end s r = (r .replay ≡ s .replay) × (r .filled ≡ s .filled) × (r .put ≡ s .put) × (r .end ≡ end)
+Ended end s r = (r .replay ≡ s .replay) × (r .filled ≡ s .filled) × (r .put ≡ s .put) × (r .end ≡ end) × (r .going ≡ false)
 
 -- ---- the steps of a turn
 -- what it replays, with so much room for lines
@@ -61,28 +61,28 @@ pub record Onward (pause : Pause) (s : Standing) (chunk : List ℕ) (r : Standin
   pub behind : waiting r after ≡ waiting s chunk ++ next
   pub ends : r .going ≡ false → r .end ≡ EndOver → pause ≡ Over
 
--- ---- a turn. Its writes took as many bytes as its lines have, or the run ends as one that could not write
+-- ---- a turn. Its writes took as many bytes as its lines have, or the run is over as one that could not write: none goes on
 pub record Turned (s : Standing) (chunk : List ℕ) (room : ℕ) (r : Standing) (after : List ℕ) : Type 0 where
   pub stands : Stands r (length after)
-  pub puts : (r .end ≡ Unwritten → ⊥) → r .put ≡ length (partOf s chunk room .bytes)
+  pub puts : (r .going ≡ false → r .end ≡ Unwritten → ⊥) → r .put ≡ length (partOf s chunk room .bytes)
   pub replayed : r .replay ≡ partOf s chunk room .replay
   pub next : List ℕ
   pub behind : waiting r after ≡ drop (partOf s chunk room .place) (waiting s chunk) ++ next
   pub ends : r .going ≡ false → r .end ≡ EndOver
       → pauseOf (s .last) (readAt (waiting s chunk) (partOf s chunk room .place)) (r .replay) ≡ Over
 
--- ---- a run: turns with any room up to one that ends well. The bytes that are read make up the rest of the trace, of which
+-- ---- a run: turns with any room, each of which goes on, up to one that ends well. The bytes that are read make up the rest of the trace, of which
 -- none is left once a read said that it is at the end; the lines that are written make up what is printed
 pub data Ran : Standing → List ℕ → List ℕ → List ℕ → Type 0 where
   on : {s r : Standing} {chunk after later out : List ℕ} {room : ℕ} (t : Turned s chunk room r after)
-      → (s .last ≡ true → t .next ++ later ≡ []) → Ran r after later out
+      → r .going ≡ true → (s .last ≡ true → t .next ++ later ≡ []) → Ran r after later out
       → Ran s chunk (t .next ++ later) (partOf s chunk room .bytes ++ out)
   end : {s r : Standing} {chunk after later : List ℕ} {room : ℕ} → Turned s chunk room r after → (s .last ≡ true → later ≡ [])
       → r .going ≡ false → r .end ≡ EndOver → Ran s chunk later (partOf s chunk room .bytes ++ [])
 
 -- a turn is a feed and more bytes, and the last one a feed and the end
 ran-plays : {s : Standing} {chunk later out : List ℕ} → Ran s chunk later out → Played (s .replay) (waiting s chunk) 0 later out
-ran-plays (on {s} {r} {chunk} {after} {later} {out} {room} t none rest) =
+ran-plays (on {s} {r} {chunk} {after} {later} {out} {room} t going none rest) =
     let here : List ℕ = drop (partOf s chunk room .place) (waiting s chunk) ++ t .next in
     let moved : Played (r .replay) here 0 later out = subst (λ (l : List ℕ). Played (r .replay) l 0 later out) (t .behind) (ran-plays rest) in
     feed (s .last) room none (more (t .next) (subst (λ (p : Replay). Played p here 0 later out) (t .replayed) moved))

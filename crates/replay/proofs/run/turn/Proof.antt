@@ -52,7 +52,7 @@ returns c =
     let k = c .before .before .before .before in
     let mid = k .carried .last .1 .1 .1 .0 in
     let stops = ends-so mid mid (k .carried .ensures .stands) refl (c .ended .ensures) unwritten-is-not-over in
-    turns (fed k .before .replayed .ensures) (k .carried .ensures) stops (λ h. absurd (h (c .ended .ensures .3)))
+    turns (fed k .before .replayed .ensures) (k .carried .ensures) stops (λ h. absurd (h (c .ended .ensures .4) (c .ended .ensures .3)))
 
 onward-requires : tie.Need-onward-requires
 onward-requires c κs = search needs
