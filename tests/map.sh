@@ -1,13 +1,15 @@
 #!/usr/bin/env bash
-# The documents against the files: every must-fail edit that docs/proof-map.md or docs/entries.md names is there, every edit that
-# is there is named in docs/proof-map.md or in a table of edits, and every path that README.md or docs/*.md names is there.
-# An edit is named as `crate/name`, or by its bare name in a table that says its crate: those of "What guards the rules" and
-# "What guards it" in the map, and the last column of the entries. The last line is 'N passed, M failed'.
+# The documents against the files: every must-fail edit that the map (docs/proof-map.md, theorems.md and guards.md) or
+# docs/entries.md names is there, every edit that is there is named in the map or in a table of edits, and every path that
+# README.md or docs/*.md names is there. An edit is named as `crate/name`, or by its bare name in a table that says its crate:
+# those of docs/guards.md, and the last column of the entries. So is every theorem that they name. The last line is
+# 'N passed, M failed'.
 set -uo pipefail
 export LC_ALL=C
 cd "$(dirname "$0")/.." || exit 1
 source compare/common
 
+map=(docs/proof-map.md docs/theorems.md docs/guards.md)
 passed=0
 failed=0
 work=$(mktemp -d) || exit 1
@@ -48,14 +50,14 @@ for edit in crates/*/must-fail/*.edit; do
 done | sort >"$work/there"
 
 # ---- those that the tables name
-rows docs/proof-map.md 'What guards the rules' >"$work/rows"
+rows docs/guards.md 'What guards the rules' >"$work/rows"
 while IFS= read -r row; do
     mapfile -t crates < <(cell "$row" 2 | quoted)
     IFS=';' read -r -a groups <<<"$(cell "$row" 3)"
     is "the map has ${#groups[@]} groups of edits for ${#crates[@]} crates:$(cell "$row" 1)" [ "${#groups[@]}" -eq "${#crates[@]}" ]
     for ((n = 0; n < ${#crates[@]}; n++)); do of_crate "${crates[n]}" "${groups[n]:-}"; done >>"$work/tables"
 done <"$work/rows"
-rows docs/proof-map.md 'What guards it' >"$work/rows.it"
+rows docs/guards.md 'What guards demand 3' >"$work/rows.it"
 while IFS= read -r row; do
     # The lie is in the first cell, or, where that is a wrong controller in words, in the second.
     named=$(cell "$row" 1)
@@ -73,8 +75,8 @@ is "$(cat "$work/faults" 2>&1)" [ ! -e "$work/faults" ]
 
 # ---- those that are named by crate and name, anywhere in the two
 crates=$(for crate in crates/*/; do basename "$crate"; done | paste -sd '|')
-cat docs/proof-map.md docs/entries.md | quoted | grep -E "^($crates)/[a-z0-9_]+$" | sort -u >"$work/written"
-quoted <docs/proof-map.md | grep -E "^($crates)/[a-z0-9_]+$" | cat - "$work/tables" | sort -u >"$work/named"
+cat "${map[@]}" docs/entries.md | quoted | grep -E "^($crates)/[a-z0-9_]+$" | sort -u >"$work/written"
+cat "${map[@]}" | quoted | grep -E "^($crates)/[a-z0-9_]+$" | cat - "$work/tables" | sort -u >"$work/named"
 
 sort -u "$work/written" "$work/tables" >"$work/all"
 while read -r edit; do
@@ -92,5 +94,14 @@ for document in README.md docs/*.md; do
     done < <(quoted <"$document" | sed 's|^\./||; s/ .*//' | grep -E '^(\.ci|bench|cases|compare|crates|docs|examples|second|tests)/' | sort -u)
 done
 
-# The documents may say a path less; none of the loops above may run over nothing.
-close_count "$passed" "$failed" 330
+# ---- every theorem: a word of small letters with hyphens is one of ours, or a stored case
+grep -rhoE '^ *(pub )?[a-z0-9]+(-[a-z0-9]+)+ :' crates --include='*.antt' | tr -d ' :' | sed 's/^pub//' | sort -u >"$work/theorems"
+is_shown() { grep -qxF "$1" "$work/theorems" || [ -f "cases/$1.text" ]; }
+for document in README.md docs/*.md; do
+    while read -r name; do
+        is "$document names $name, which nothing shows" is_shown "$name"
+    done < <(quoted <"$document" | grep -xE '[a-z0-9]+(-[a-z0-9]+)+' | sort -u)
+done
+
+# The documents may say a name or two less; none of the loops above may run over nothing.
+close_count "$passed" "$failed" 625
