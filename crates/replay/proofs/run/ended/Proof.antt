@@ -1,0 +1,11 @@
+-- `replay::run::ended` meets its contract: what the run has stays, and it goes on no more.
+-- Assumes nothing.
+use borrow.Author.Needs.{needs}
+use Rattle.replay.proofs.run.ended.Statement.{statement}
+use Rattle.replay.proofs.run.ended.Tie as tie
+
+returns : tie.Need-returns
+returns c = search needs
+
+pub ended-spec : {M : Type 1} → statement M
+ended-spec = tie.close (tie.spec returns)
