@@ -10,7 +10,7 @@ use lib.ListN.{length, getD, take, drop, set, length-set, take-append-drop}
 use lib.Seq.{length-take-le, take-suc-set, drop-set-lt, drop-drop}
 use Rattle.rules.specs.Units.{abs}
 use Rattle.rules.specs.Budget.{popped, oldestId, oldestCost, charged, owes, fits}
-use Rattle.rules.specs.Tick.{Turn, gained, repaid, releaseIn, released, capped, turn, lentAfter}
+use Rattle.rules.specs.Tick.{Release, noRelease, gained, repayment, repaid, releaseIn, released, capped, turn, lentAfter}
 use Rattle.rules.specs.Laws.Queues.{popped-sound, oldest-cost-most}
 use Rattle.rules.specs.declared.units.Abs.{Abs}
 use Rattle.rules.specs.declared.units.Virt.{Virt}
@@ -18,28 +18,24 @@ use Rattle.rules.specs.declared.budget.Row.{Row}
 use Rattle.rules.specs.declared.budget.Queue.{Queue}
 use Rattle.leaf.specs.Fit.{CanRelease, Priced, Payable, cheap-is-priced, fitting-is-payable}
 use Rattle.leaf.specs.Alone.{cappedWith}
-use Rattle.leaf.specs.Turns.{turned}
-use Rattle.leaf.specs.declared.tick.Turned.{Turned}
+use Rattle.leaf.specs.Turns.{Releases, Turns}
+use Rattle.leaf.specs.declared.tick.Left.{Left}
 
--- nothing is released from here on
-abbrev pub rest : Row → Queue → Turn
-rest row queue = record { row = row; queue = queue; ids = [] }
-
--- a turn that goes on after some ids were written
-abbrev pub andThen : List ℕ → Turn → Turn
+-- a release that goes on after some ids were written
+abbrev pub andThen : List ℕ → Release → Release
 andThen ids t = record { row = t .row; queue = t .queue; ids = ids ++ t .ids }
 
 -- ---- the rule, one bio at a time
 module _ (share : ℕ) (row : Row) (queue : Queue) where
-  pub nothing-waits : queue .len ≡ 0 → releaseIn (queue .len) share row queue ≡ rest row queue
+  pub nothing-waits : queue .len ≡ 0 → releaseIn (queue .len) share row queue ≡ noRelease row queue
   unfolding releaseIn
   nothing-waits e = rw e
 
-  pub first-does-not-fit : fits (oldestCost queue) share row ≡ false → releaseIn (queue .len) share row queue ≡ rest row queue
+  pub first-does-not-fit : fits (oldestCost queue) share row ≡ false → releaseIn (queue .len) share row queue ≡ noRelease row queue
   unfolding releaseIn
   first-does-not-fit f = go (queue .len)
     where
-      go : (more : ℕ) → releaseIn more share row queue ≡ rest row queue
+      go : (more : ℕ) → releaseIn more share row queue ≡ noRelease row queue
       go zero = refl
       go (suc more) = rw f
 
@@ -114,9 +110,8 @@ module _ {share : ℕ} {row₀ : Row} {queue₀ : Queue} {out₀ : List ℕ} {ro
       → Going share row₀ queue₀ out₀ next left (set out count id) (count + 1)
   goes-on some f e i n l = rw (n, l, i, e) (one-more some f)
 
-  pub ends : releaseIn (queue .len) share row queue ≡ rest row queue
-      → (_≡_ {A = Turned} (record { row = row; queue = queue; count = count }) (turned (releaseIn (queue₀ .len) share row₀ queue₀)))
-      × (out ≡ lentAfter (releaseIn (queue₀ .len) share row₀ queue₀ .ids) out₀)
+  pub ends : releaseIn (queue .len) share row queue ≡ noRelease row queue
+      → Releases (releaseIn (queue₀ .len) share row₀ queue₀) out₀ (record { row = row; queue = queue; count = count }) out
   unfolding lentAfter
   ends e =
       let size : length (take count out) ≡ count = length-take-le count out (omega (arith, going .room, going .size)) in
@@ -129,23 +124,19 @@ module _ {share : ℕ} {row₀ : Row} {queue₀ : Queue} {out₀ : List ℕ} {ro
 -- ---- the release of a leaf that may owe
 module _ (share : ℕ) (row : Row) (queue : Queue) (out : List ℕ) where
   pub owing-releases-nothing : owes row ≡ true
-      → (_≡_ {A = Turned} (record { row = row; queue = queue; count = 0 }) (turned (released share row queue)))
-      × (out ≡ lentAfter (released share row queue .ids) out)
+      → Releases (released share row queue) out (record { row = row; queue = queue; count = 0 }) out
   unfolding released lentAfter
   owing-releases-nothing e = (rw e, rw e)
 
-  pub free-releases : {t : Turned} {after : List ℕ} → owes row ≡ false
-      → (t ≡ turned (releaseIn (queue .len) share row queue)) × (after ≡ lentAfter (releaseIn (queue .len) share row queue .ids) out)
-      → (t ≡ turned (released share row queue)) × (after ≡ lentAfter (released share row queue .ids) out)
+  pub free-releases : {t : Left} {after : List ℕ} → owes row ≡ false
+      → Releases (releaseIn (queue .len) share row queue) out t after → Releases (released share row queue) out t after
   unfolding released
   free-releases e w = rw e w
 
 -- ---- the whole turn, stage by stage
-pub turn-ends : (gain : Virt) (share : ℕ) (row : Row) (queue : Queue) (out : List ℕ) {after : List ℕ} {more paid left : Row} {t : Turned}
-    → more ≡ gained gain row → paid ≡ repaid share more
-    → (t ≡ turned (released share paid queue)) × (after ≡ lentAfter (released share paid queue .ids) out)
+pub turn-ends : (gain : Virt) (share : ℕ) (row : Row) (queue : Queue) (out : List ℕ) {after : List ℕ} {more paid left : Row} {p : Abs} {t : Left}
+    → more ≡ gained gain row → p ≡ repayment share more → paid ≡ repaid share more → Releases (released share paid queue) out t after
     → left ≡ cappedWith (t .row) (t .queue .len)
-    → (_≡_ {A = Turned} (record { row = left; queue = t .queue; count = t .count }) (turned (turn gain share row queue)))
-    × (after ≡ lentAfter (turn gain share row queue .ids) out)
+    → Turns (turn gain share row queue) out (record { row = left; queue = t .queue; repaid = p; count = t .count }) after
 unfolding turn capped
-turn-ends gain share row queue out m p w l = (rw (l, w .0, p, m), rw (w .1, p, m))
+turn-ends gain share row queue out m r p w l = (rw (l, w .0, p, r, m), rw (w .1, p, m))

@@ -5,7 +5,7 @@ ghost use Prim.Native.Nat.{_+_, _*_, _^_, _≤_, _<_};
 ghost use lib.ListN.{length};
 ghost use Rattle.rules.specs.Tick.{gained as gainedOf, repayment as repaymentOf, repaid as repaidOf, releaseIn, released as releasedOf, turn as leafTurn};
 ghost use Rattle.leaf.specs.Fit.{Fit, CanRepay, CanRelease, gainMost};
-ghost use Rattle.leaf.specs.Turns.{Turns};
+ghost use Rattle.leaf.specs.Turns.{Releases, Turns};
 ghost use Rattle.leaf.specs.Alone.{cappedWith};
 use crate::queue;
 use crate::row;
@@ -17,10 +17,18 @@ use rules::units::Virt;
 // The most that a leaf saves which owes nothing and waits for nothing.
 const IDLE_CAP: u64 = 134217728;
 
-// What a turn leaves, and how many ids it wrote.
+// What a release leaves, and how many ids it wrote.
+pub(crate) struct Left {
+    pub row: Row,
+    pub queue: Queue,
+    pub count: usize,
+}
+
+// The same of a whole turn, and what it repaid.
 pub struct Turned {
     pub row: Row,
     pub queue: Queue,
+    pub repaid: Abs,
     pub count: usize,
 }
 
@@ -42,13 +50,12 @@ fn repayment(share: u64, row: Row) -> Abs
     Abs(crate::smaller(row.debt.0, able.0))
 }
 
-// "if it owes, it repays p = .., and the budget falls by .."
-fn repaid(share: u64, row: Row) -> Row
-    requires { ⌜ CanRepay share row ⌝ }
+// "if it owes, it repays p, and the budget falls by .."
+fn repaid(p: Abs, share: u64, row: Row) -> Row
+    requires { ⌜ CanRepay share row × (p ≡ repaymentOf share row) ⌝ }
     ensures { λ r. ⌜ r ≡ repaidOf share row ⌝ }
 {
     if row::owes(row) {
-        let p = repayment(share, row);
         let left = Abs(row.debt.0 - p.0);
         row::with_debt(left, row::charged(p, share, row))
     } else {
@@ -57,9 +64,9 @@ fn repaid(share: u64, row: Row) -> Row
 }
 
 // "waiting bios are released .."
-fn release_fitting(share: u64, mut row: Row, mut queue: Queue, out: &mut [u32]) -> Turned
+fn release_fitting(share: u64, mut row: Row, mut queue: Queue, out: &mut [u32]) -> Left
     requires { ⌜ CanRelease share row queue × (queue .len ≤ length (now out)) ⌝ }
-    ensures { λ r. ⌜ Turns (releaseIn (queue .len) share row queue) (now (out .entry)) r (now (out .exit)) ⌝ }
+    ensures { λ r. ⌜ Releases (releaseIn (queue .len) share row queue) (now (out .entry)) r (now (out .exit)) ⌝ }
 {
     let mut count: usize = 0;
     while 0 < queue.len {
@@ -71,19 +78,19 @@ fn release_fitting(share: u64, mut row: Row, mut queue: Queue, out: &mut [u32]) 
             queue = queue::popped(queue);
             count += 1;
         } else {
-            return Turned { row, queue, count };
+            return Left { row, queue, count };
         }
     }
-    Turned { row, queue, count }
+    Left { row, queue, count }
 }
 
 // "if it now owes nothing, .."
-fn released(share: u64, row: Row, queue: Queue, out: &mut [u32]) -> Turned
+fn released(share: u64, row: Row, queue: Queue, out: &mut [u32]) -> Left
     requires { ⌜ CanRelease share row queue × (queue .len ≤ length (now out)) ⌝ }
-    ensures { λ r. ⌜ Turns (releasedOf share row queue) (now (out .entry)) r (now (out .exit)) ⌝ }
+    ensures { λ r. ⌜ Releases (releasedOf share row queue) (now (out .entry)) r (now (out .exit)) ⌝ }
 {
     if row::owes(row) {
-        Turned {
+        Left {
             row,
             queue,
             count: 0,
@@ -115,9 +122,16 @@ pub fn turn(gain: Virt, share: u64, row: Row, queue: Queue, out: &mut [u32]) -> 
     requires { ⌜ Fit share row queue × (gain .0 ≤ gainMost) × (queue .len ≤ length (now out)) ⌝ }
     ensures { λ r. ⌜ Turns (leafTurn gain share row queue) (now (out .entry)) r (now (out .exit)) ⌝ }
 {
-    let mut t = released(share, repaid(share, gained(gain, row)), queue, out);
-    let left = t.row;
-    let row = capped(left, t.queue.len);
-    t.row = row;
-    t
+    let gained = gained(gain, row);
+    let p = repayment(share, gained);
+    let repaid = repaid(p, share, gained);
+    let left = released(share, repaid, queue, out);
+    let row = left.row;
+    let queue = left.queue;
+    Turned {
+        row: capped(row, queue.len),
+        queue,
+        repaid: p,
+        count: left.count,
+    }
 }

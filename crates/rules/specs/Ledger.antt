@@ -1,17 +1,17 @@
 -- The ledger's heads: what a call adds to each, by its answer and the state that it came upon. No head is a field of the
 -- state; a refused call adds nothing.
 -- Assumes nothing.
-use mathlib.Core.Bool.{cond, _&&_}
+use mathlib.Core.Bool.{cond}
 use mathlib.Core.List.{List}
 use Prim.Native.Nat.{ℕ, zero, suc, _+_, _*_, _%_}
 use lib.Dec.{eqb}
 use lib.ListN.{length, getD}
 use Rattle.rules.specs.Numbers.{queueRoom, leafMost}
-use Rattle.rules.specs.Words.{sumTo, tableFrom, has}
+use Rattle.rules.specs.Words.{sumTo, tableFrom}
 use Rattle.rules.specs.Units.{abs}
 use Rattle.rules.specs.Cost.{costOf}
-use Rattle.rules.specs.Budget.{rowAt, queueAt, shareAt, owes}
-use Rattle.rules.specs.Tick.{growth, gained, repayment, turnOf}
+use Rattle.rules.specs.Budget.{rowAt, queueAt, shareAt}
+use Rattle.rules.specs.Tick.{growth, turnOf}
 use Rattle.rules.specs.Plan.{quietIn, forgiveness}
 use Rattle.rules.specs.Refusals.{firstOf, tickChecks, planChecks}
 use Rattle.rules.specs.Entries.{submitted, ticked, planned, setBy}
@@ -99,7 +99,7 @@ unfoldable pub releasedAt : Virt → Controller → ℕ → ℕ
 releasedAt g c n = costOfFirst (queueAt c n) (length (turnOf g c n .ids))
 
 unfoldable pub repaidAt : Virt → Controller → ℕ → ℕ
-repaidAt g c n = cond (has (c .active) n && owes (rowAt c n)) (repayment (shareAt c n) (gained g (rowAt c n)) .0) 0
+repaidAt g c n = turnOf g c n .repaid .0
 
 unfoldable pub forgivenAt : Controller → ℕ → ℕ
 forgivenAt c n = forgiveness (quietIn c) (rowAt c n .debt) .0

@@ -28,7 +28,7 @@ advanced time k = withTimes time (virt (k .vtime .0 + growth k time .0)) (virt (
 abbrev pub gained : Virt → Row → Row
 gained g r = withBudget (virt (r .budget .0 + g .0)) r
 
--- "if it owes, it repays p = .., and the budget falls by .."
+-- "if it owes, it repays p = .., and the budget falls by ..": of no debt, nothing
 unfoldable pub repayment : ℕ → Row → Abs
 repayment share r = abs (min (r .debt .0) (repayable (r .budget) share .0))
 
@@ -38,43 +38,59 @@ repaid share r =
     (withDebt (abs (r .debt .0 - repayment share r .0)) (charged (repayment share r) share r))
     r
 
--- what a leaf's turn leaves: its row, its queue, and the ids that it released, in order
-pub record Turn : Type 0 where
+-- what a release leaves: the row, the queue, and the ids that went, in order
+pub record Release : Type 0 where
   pub row : Row
   pub queue : Queue
   pub ids : List ℕ
 
-abbrev pub andFirst : ℕ → Turn → Turn
+abbrev pub noRelease : Row → Queue → Release
+noRelease r q = record { row = r; queue = q; ids = [] }
+
+abbrev pub andFirst : ℕ → Release → Release
 andFirst id t = record { row = t .row; queue = t .queue; ids = id ∷ t .ids }
 
 -- "waiting bios are released, ..": at most as many as wait, up to the first that does not fit (DECISIONS 18)
-unfoldable pub releaseIn : ℕ → ℕ → Row → Queue → Turn
-releaseIn zero share r q = record { row = r; queue = q; ids = [] }
+unfoldable pub releaseIn : ℕ → ℕ → Row → Queue → Release
+releaseIn zero share r q = noRelease r q
 releaseIn (suc more) share r q =
     cond (fits (oldestCost q) share r)
     (andFirst (oldestId q) (releaseIn more share (charged (oldestCost q) share r) (popped q)))
-    (record { row = r; queue = q; ids = [] })
+    (noRelease r q)
 
 -- "if it now owes nothing, .."
-unfoldable pub released : ℕ → Row → Queue → Turn
-released share r q = cond (owes r) (record { row = r; queue = q; ids = [] }) (releaseIn (q .len) share r q)
+unfoldable pub released : ℕ → Row → Queue → Release
+released share r q = cond (owes r) (noRelease r q) (releaseIn (q .len) share r q)
 
 -- "last, if it owes nothing .."
 unfoldable pub capped : Row → Queue → Row
 capped r q = cond (not (owes r) && not (waits q) && ltb idleCap (r .budget .0)) (withBudget (virt idleCap) r) r
 
-abbrev pub andCapped : Turn → Turn
+abbrev pub andCapped : Release → Release
 andCapped t = record { row = capped (t .row) (t .queue); queue = t .queue; ids = t .ids }
 
+-- what a leaf's turn leaves: its row, its queue, what it repaid, and the ids that it released
+pub record Turn : Type 0 where
+  pub row : Row
+  pub queue : Queue
+  pub repaid : Abs
+  pub ids : List ℕ
+
+abbrev pub noTurn : Row → Queue → Turn
+noTurn r q = record { row = r; queue = q; repaid = abs 0; ids = [] }
+
+abbrev pub andRepaid : Abs → Release → Turn
+andRepaid p t = record { row = t .row; queue = t .queue; repaid = p; ids = t .ids }
+
 unfoldable pub turn : Virt → ℕ → Row → Queue → Turn
-turn g share r q = andCapped (released share (repaid share (gained g r)) q)
+turn g share r q = andRepaid (repayment share (gained g r)) (andCapped (released share (repaid share (gained g r)) q))
 
 -- ---- "Then for each active leaf, by rising number: .."
 unfoldable pub turnOf : Virt → Controller → ℕ → Turn
 turnOf g c n =
     cond (has (c .active) n)
     (turn g (shareAt c n) (rowAt c n) (queueAt c n))
-    (record { row = rowAt c n; queue = queueAt c n; ids = [] })
+    (noTurn (rowAt c n) (queueAt c n))
 
 -- "Released ids go .."
 unfoldable pub releases : Virt → Controller → List ℕ

@@ -17,7 +17,7 @@ use Rattle.rules.specs.Words.{sumTo, has, noNode}
 use Rattle.rules.specs.Units.{virt, FLOOR, relative, repayable}
 use Rattle.rules.specs.Tree.{isLeaf}
 use Rattle.rules.specs.Budget.{rowAt, queueAt, shareAt, popped, oldestCost, reshared, rebased, activated, entered, endsDonation, applied, settled, submission, wouldBe}
-use Rattle.rules.specs.Tick.{growth, advanced, gained, repayment, repaid as repaying, turn, turnOf, releases, lentAfter, tick as ticking}
+use Rattle.rules.specs.Tick.{noTurn, growth, advanced, gained, repayment, repaid as repaying, turn, turnOf, releases, lentAfter, tick as ticking}
 use Rattle.rules.specs.Plan.{usageAll, isDonation, donated, closed, shared, plan as planning}
 use Rattle.rules.specs.Refusals.{firstOf, submitChecks, tickChecks, planChecks}
 use Rattle.rules.specs.Entries.{submitted, submittedBy, ticked, tickedBy, lentOf, lentBy, planned, plannedBy, setBy}
@@ -28,7 +28,7 @@ use Rattle.rules.specs.Laws.Trees.{root-no-leaf, leaf-last, last-most}
 use Rattle.rules.specs.Laws.Sums.{length-join, join-within, join-at}
 use Rattle.rules.specs.Laws.Tables.{getD-table}
 use Rattle.rules.specs.Laws.Queues.{popped-cost, popped-id}
-use Rattle.rules.specs.Laws.Rows.{keepAll, released-moves-up, turn-releases-all}
+use Rattle.rules.specs.Laws.Rows.{released-moves-up, turn-releases-all}
 use Rattle.rules.specs.Laws.States.{share-pos}
 use Rattle.rules.specs.Laws.Ticks.{active-turn, active-repays, idle-repays, idle-releases, leaf-tick, tick-row, tick-queue, tick-releases-fit}
 use Rattle.rules.specs.Laws.Plans.{half-of-a-debt-is-forgiven-when-quiet, nothing-is-forgiven-when-busy}
@@ -59,8 +59,8 @@ unfolding turnOf turn
 turn-moves-up at up g c n i = go (has (c .active) n)
   where
     go : (t : Bool)
-        → at (cond t (turn g (shareAt c n) (rowAt c n) (queueAt c n)) (keepAll (rowAt c n) (queueAt c n)) .queue) i
-        ≡ at (queueAt c n) (length (cond t (turn g (shareAt c n) (rowAt c n) (queueAt c n)) (keepAll (rowAt c n) (queueAt c n)) .ids) + i)
+        → at (cond t (turn g (shareAt c n) (rowAt c n) (queueAt c n)) (noTurn (rowAt c n) (queueAt c n)) .queue) i
+        ≡ at (queueAt c n) (length (cond t (turn g (shareAt c n) (rowAt c n) (queueAt c n)) (noTurn (rowAt c n) (queueAt c n)) .ids) + i)
     go true = released-moves-up at up (shareAt c n) (repaying (shareAt c n) (gained g (rowAt c n))) (queueAt c n) i
     go false = ap (at (queueAt c n)) (omega arith)
 

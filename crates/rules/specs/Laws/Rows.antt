@@ -2,7 +2,7 @@
 -- Assumes nothing.
 use mathlib.Core.Path.{_≡_, refl, sym, ap, _∙_}
 use mathlib.Core.Bool.{Bool, true, false, cond, not, _&&_}
-use mathlib.Core.List.{List, [], _∷_}
+use mathlib.Core.List.{List, _∷_}
 use mathlib.Core.Logic.{_⊎_, inl, inr, ⊎-elim}
 use Prim.Native.Nat.{ℕ, zero, suc, _+_, _-_, _*_, _≤_, _<_}
 use native.Mathlib.Nat.{sub-add-cancel, le-trans, le-refl, mul-le-mul, mul-le-mul-right, min-le-left, min-le-right, eq-zero-or-pos}
@@ -15,7 +15,7 @@ use Rattle.rules.specs.Words.{tableFrom}
 use Rattle.rules.specs.Units.{abs, virt, relative, repayable}
 use Rattle.rules.specs.Cost.{endOf}
 use Rattle.rules.specs.Budget.{popped, oldestId, oldestCost, withBudget, withDebt, charged, noted, owes, waits, fits}
-use Rattle.rules.specs.Tick.{Turn, gained, repayment, repaid, andFirst, releaseIn, released, capped, turn}
+use Rattle.rules.specs.Tick.{Release, noRelease, Turn, gained, repayment, repaid, andFirst, releaseIn, released, capped, turn}
 use Rattle.rules.specs.Invariant.{worthMost, SoundQueue, SoundRow}
 use Rattle.rules.specs.Ledger.{costOfFirst, idsOfFirst}
 use Rattle.rules.specs.Laws.Bools.{and-right, and-not-left, and-not-right}
@@ -103,13 +103,6 @@ repayment-is-affordable share r p = relative-cost-is-least (repayment share r) s
 pub repayment-of-nothing : (share : ℕ) (r : Row) → r .debt .0 ≡ 0 → repayment share r .0 ≡ 0
 repayment-of-nothing share r z = omega (arith, repayment-most share r)
 
-pub repayment-if-owing : (share : ℕ) (r : Row) → cond (owes r) (repayment share r .0) 0 ≡ repayment share r .0
-repayment-if-owing share r = go (owes r) refl
-  where
-    go : (t : Bool) → owes r ≡ t → cond t (repayment share r .0) 0 ≡ repayment share r .0
-    go true e = refl
-    go false e = omega (arith, repayment-of-nothing share r (omega (arith, ltb-false 0 (r .debt .0) e)))
-
 -- "it repays p = .., and the budget falls by CEIL(p x WHOLE / share)"
 pub repaid-budget : (share : ℕ) (r : Row) → 0 < r .debt .0 → repaid share r .budget .0 ≡ r .budget .0 - relative (repayment share r) share .0
 unfolding repaid
@@ -154,7 +147,7 @@ module _ (share : ℕ) (r : Row) (p : 0 < share) where
 
 -- ---- releases
 -- what a queue and its row become when as many are released as there are ids
-pub record Releases (share : ℕ) (r : Row) (q : Queue) (t : Turn) : Type 0 where
+pub record Releases (share : ℕ) (r : Row) (q : Queue) (t : Release) : Type 0 where
   pub pays : Pays share (costOfFirst q (length (t .ids))) r (t .row)
   pub debt : t .row .debt .0 ≡ r .debt .0
   pub left : t .queue .len + length (t .ids) ≡ q .len
@@ -163,14 +156,10 @@ pub record Releases (share : ℕ) (r : Row) (q : Queue) (t : Turn) : Type 0 wher
   pub queue : SoundQueue (t .queue)
 
 -- no more can be released: nothing waits, or the oldest does not fit
-abbrev pub AllReleased : ℕ → Turn → Type 0
+abbrev pub AllReleased : ℕ → Release → Type 0
 AllReleased share t = (t .queue .len ≡ 0) ⊎ (fits (oldestCost (t .queue)) share (t .row) ≡ false)
 
--- the turn of a leaf that is left as it is
-abbrev pub keepAll : Row → Queue → Turn
-keepAll r q = record { row = r; queue = q; ids = [] }
-
-releases-none : (share : ℕ) (r : Row) (q : Queue) → SoundQueue q → Releases share r q (keepAll r q)
+releases-none : (share : ℕ) (r : Row) (q : Queue) → SoundQueue q → Releases share r q (noRelease r q)
 unfolding costOfFirst idsOfFirst tableFrom
 releases-none share r q sound = record {
   pays = pays-nothing share r;
@@ -182,7 +171,7 @@ releases-none share r q sound = record {
 }
 
 -- the oldest, and then those of the popped queue
-releases-one : (share : ℕ) (r : Row) (q : Queue) (t : Turn) → 0 < share → SoundQueue q → 0 < q .len → fits (oldestCost q) share r ≡ true
+releases-one : (share : ℕ) (r : Row) (q : Queue) (t : Release) → 0 < share → SoundQueue q → 0 < q .len → fits (oldestCost q) share r ≡ true
     → Releases share (charged (oldestCost q) share r) (popped q) t → Releases share r q (andFirst (oldestId q) t)
 releases-one share r q t p sound some e w =
     let k = length (t .ids) in
@@ -204,11 +193,11 @@ release-in-releases (suc more) share r q p sound l =
     go (fits (oldestCost q) share r) refl
     (release-in-releases more share (charged (oldestCost q) share r) (popped q) p (popped-sound q sound) (omega arith))
   where
-    rest : Turn
+    rest : Release
     rest = releaseIn more share (charged (oldestCost q) share r) (popped q)
 
     go : (t : Bool) → fits (oldestCost q) share r ≡ t → Releases share (charged (oldestCost q) share r) (popped q) rest
-        → Releases share r q (cond t (andFirst (oldestId q) rest) (keepAll r q))
+        → Releases share r q (cond t (andFirst (oldestId q) rest) (noRelease r q))
     go true e w = releases-one share r q rest p sound (omega arith) e w
     go false e w = releases-none share r q sound
 
@@ -219,11 +208,11 @@ release-in-releases-all (suc more) share r q e =
     go (fits (oldestCost q) share r) refl
     (release-in-releases-all more share (charged (oldestCost q) share r) (popped q) (omega arith))
   where
-    rest : Turn
+    rest : Release
     rest = releaseIn more share (charged (oldestCost q) share r) (popped q)
 
     go : (t : Bool) → fits (oldestCost q) share r ≡ t → AllReleased share rest
-        → AllReleased share (cond t (andFirst (oldestId q) rest) (keepAll r q))
+        → AllReleased share (cond t (andFirst (oldestId q) rest) (noRelease r q))
     go true f w = w
     go false f w = inr f
 
@@ -231,7 +220,7 @@ pub released-releases : (share : ℕ) (r : Row) (q : Queue) → 0 < share → So
 unfolding released
 released-releases share r q p sound = go (owes r)
   where
-    go : (t : Bool) → Releases share r q (cond t (keepAll r q) (releaseIn (q .len) share r q))
+    go : (t : Bool) → Releases share r q (cond t (noRelease r q) (releaseIn (q .len) share r q))
     go true = releases-none share r q sound
     go false = release-in-releases (q .len) share r q p sound (le-refl _)
 
@@ -244,12 +233,12 @@ module _ (at : Queue → ℕ → ℕ) (up : (q : Queue) (i : ℕ) → at (popped
   release-in-moves-up (suc more) share r q i =
       go (fits (oldestCost q) share r) (release-in-moves-up more share (charged (oldestCost q) share r) (popped q) i)
     where
-      rest : Turn
+      rest : Release
       rest = releaseIn more share (charged (oldestCost q) share r) (popped q)
 
       go : (t : Bool) → at (rest .queue) i ≡ at (popped q) (length (rest .ids) + i)
-          → at (cond t (andFirst (oldestId q) rest) (keepAll r q) .queue) i
-          ≡ at q (length (cond t (andFirst (oldestId q) rest) (keepAll r q) .ids) + i)
+          → at (cond t (andFirst (oldestId q) rest) (noRelease r q) .queue) i
+          ≡ at q (length (cond t (andFirst (oldestId q) rest) (noRelease r q) .ids) + i)
       go true w = w ∙ up q (length (rest .ids) + i) ∙ ap (at q) (omega arith)
       go false w = ap (at q) (omega arith)
 
@@ -258,8 +247,8 @@ module _ (at : Queue → ℕ → ℕ) (up : (q : Queue) (i : ℕ) → at (popped
   unfolding released
   released-moves-up share r q i = go (owes r)
     where
-      go : (t : Bool) → at (cond t (keepAll r q) (releaseIn (q .len) share r q) .queue) i
-          ≡ at q (length (cond t (keepAll r q) (releaseIn (q .len) share r q) .ids) + i)
+      go : (t : Bool) → at (cond t (noRelease r q) (releaseIn (q .len) share r q) .queue) i
+          ≡ at q (length (cond t (noRelease r q) (releaseIn (q .len) share r q) .ids) + i)
       go true = ap (at q) (omega arith)
       go false = release-in-moves-up (q .len) share r q i
 
@@ -268,7 +257,7 @@ pub released-releases-all : (share : ℕ) (r : Row) (q : Queue) → (owes r ≡ 
 unfolding released
 released-releases-all share r q = go (owes r)
   where
-    go : (t : Bool) → (t ≡ true) ⊎ ((t ≡ false) × AllReleased share (cond t (keepAll r q) (releaseIn (q .len) share r q)))
+    go : (t : Bool) → (t ≡ true) ⊎ ((t ≡ false) × AllReleased share (cond t (noRelease r q) (releaseIn (q .len) share r q)))
     go true = inl refl
     go false = inr (refl, release-in-releases-all (q .len) share r q refl)
 

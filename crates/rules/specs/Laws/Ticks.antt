@@ -10,14 +10,14 @@ use lib.ListN.{length, getD}
 use Rattle.rules.specs.Numbers.{WHOLE, leafMost}
 use Rattle.rules.specs.Words.{sumTo, tableFrom, table, has}
 use Rattle.rules.specs.Budget.{rowAt, queueAt, shareAt, emptyRow, emptyQueue}
-use Rattle.rules.specs.Tick.{Turn, growth, advanced, gained, repayment, turn, turnOf, releases, tick, waitingAll}
+use Rattle.rules.specs.Tick.{Turn, noTurn, growth, advanced, gained, repayment, turn, turnOf, releases, tick, waitingAll}
 use Rattle.rules.specs.Refusals.{firstOf, tickChecks}
 use Rattle.rules.specs.Entries.{ticked, tickedBy}
 use Rattle.rules.specs.Invariant.{worthMost, Sound, SoundClock, SoundRow, SoundQueue, IdleLeaf, FreeDonor, TickPasses}
 use Rattle.rules.specs.Ledger.{Call, after, costOfFirst, idsOfFirst, waiting, owed, ifAccepted, releasedAt, repaidAt, issued, released, repaid, generated, charged, saved}
 use Rattle.rules.specs.Laws.Sums.{length-join, sum-cong, sum-le, sum-add, sum-none, sum-scale}
 use Rattle.rules.specs.Laws.Tables.{table-length, table-every}
-use Rattle.rules.specs.Laws.Rows.{keepAll, turn-keeps, turn-row-sound, turn-flow, repayment-if-owing}
+use Rattle.rules.specs.Laws.Rows.{turn-keeps, turn-row-sound, turn-flow}
 use Rattle.rules.specs.Laws.Passes.{tick-passes}
 use Rattle.rules.specs.Laws.States.{past-is-idle, row-past, queue-past, shares-at-most-whole, share-most, share-pos}
 use Rattle.rules.specs.declared.units.Virt.{Virt}
@@ -50,21 +50,21 @@ module _ (g : Virt) (c : Controller) (n : ℕ) where
   active-turn e = rw e
 
   pub active-repays : has (c .active) n ≡ true → repaidAt g c n ≡ repayment (shareAt c n) (gained g (rowAt c n)) .0
-  unfolding repaidAt
-  active-repays e = rw e (repayment-if-owing (shareAt c n) (gained g (rowAt c n)))
+  unfolding repaidAt turn
+  active-repays e = ap (λ (t : Turn). t .repaid .0) (active-turn e)
 
   pub active-releases : has (c .active) n ≡ true
       → releasedAt g c n ≡ costOfFirst (queueAt c n) (length (turn g (shareAt c n) (rowAt c n) (queueAt c n) .ids))
   unfolding releasedAt
   active-releases e = ap (λ (t : Turn). costOfFirst (queueAt c n) (length (t .ids))) (active-turn e)
 
-  pub idle-turn : has (c .active) n ≡ false → turnOf g c n ≡ keepAll (rowAt c n) (queueAt c n)
+  pub idle-turn : has (c .active) n ≡ false → turnOf g c n ≡ noTurn (rowAt c n) (queueAt c n)
   unfolding turnOf
   idle-turn e = rw e
 
   pub idle-repays : has (c .active) n ≡ false → repaidAt g c n ≡ 0
   unfolding repaidAt
-  idle-repays e = rw e
+  idle-repays e = ap (λ (t : Turn). t .repaid .0) (idle-turn e)
 
   pub idle-releases : has (c .active) n ≡ false → releasedAt g c n ≡ 0
   unfolding releasedAt costOfFirst
@@ -87,7 +87,7 @@ active-leaf-tick g share r q p s row queue =
     }
 
 idle-leaf-tick : (g : Virt) (share : ℕ) (r : Row) (q : Queue) → SoundRow r → SoundQueue q → r .budget .0 * share ≤ worthMost
-    → LeafTick g share 0 0 r q (keepAll r q)
+    → LeafTick g share 0 0 r q (noTurn r q)
 unfolding idsOfFirst tableFrom
 idle-leaf-tick g share r q row queue worth = record {
   flow = omega arith;

@@ -17,14 +17,13 @@ use Rattle.leaf.proofs.tick.repaid.Tie as tie
 owes-requires : tie.Need-owes-requires
 owes-requires c κs = search needs
 
-repayment-requires : tie.Need-repayment-requires
-repayment-requires c κs = search needs
-
 sub-t7 : tie.Need-sub-t7
-sub-t7 c = rw (c .before .before .repayment .ensures) (repayment-most _ _)
+sub-t7 c = rw (c .before .before .before .before .pre .1) (repayment-most _ _)
 
 charged-requires : tie.Need-charged-requires
-charged-requires c κs = rw (c .before .before .repayment .ensures) (repayment-is-payable (c .before .before .before .before .before .pre))
+charged-requires c κs =
+    let start = c .before .before .before .before in
+    rw (start .pre .1) (repayment-is-payable (start .pre .0))
 
 with-debt-requires : tie.Need-with-debt-requires
 with-debt-requires c κs = search needs
@@ -36,11 +35,11 @@ pays share row p after e f g = rw (f, e, g)
 
 returns : tie.Need-returns
 returns c =
-    let paid = c .before .before .before .before in
-    let asked = paid .before .before in
-    let a = asked .before .args in
+    let asked = c .before .before .before .before in
+    let start = asked .before .before in
+    let a = start .args in
     c .with-debt .ensures
-    ∙ pays (a .share) (a .row) (paid .repayment .result) (c .before .charged .result) (paid .repayment .ensures) (c .before .charged .ensures) (sym (asked .owes .ensures) ∙ paid .before .if1 .taken)
+    ∙ pays (a .share) (a .row) (a .p) (c .before .charged .result) (start .pre .1) (c .before .charged .ensures) (sym (asked .before .owes .ensures) ∙ asked .if1 .taken)
 
 returns-2 : tie.Need-returns-2
 unfolding repaid
@@ -51,7 +50,6 @@ repaid-spec =
     tie.close
     (tie.spec
     owes-requires
-    repayment-requires
     sub-t7
     charged-requires
     with-debt-requires

@@ -1,6 +1,6 @@
 -- `replay::run::turn` meets its contract: a feed, its lines written, what it leaves, and onward, or the end where not all was taken.
 -- Assumes nothing.
-use mathlib.Core.Path.{_≡_, refl}
+use mathlib.Core.Path.{refl}
 use Prim.Native.Nat.{_≤_}
 use native.Mathlib.Omega.{arith}
 use lib.ListN.{length-take}
