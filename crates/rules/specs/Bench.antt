@@ -34,7 +34,7 @@ use Rattle.rules.specs.declared.trace.Record.the-variants.{Node, Model a
 
 -- every rule that the checker computes below: to unfold this is to unfold them all
 unfoldable pub computed : Unit {0}
-unfolding sumTo anyTo joinTo tableFrom has setTo CEIL relative repayable atWhole bpsInRange iopsInRange ratesInRange pageCost baseCost priceOf priced bytesInRange sectorInRange flagsInRange bioInRange isWrite isForced isNear isSequential endOf costAt costOf parent weight last levelIn level countInRange weightInRange nodeFault faultTo treeFault isLeaf leavesOf onWayIn onWay isActive childSum shareIn shareOf baseShare baseShares isThin rebudget reshared rebased activated entered answerTo rowAfter queueAfter endsDonation answerIn applied settled submission growth advanced repayment repaid releaseIn released capped turn turnOf releases tick waitingAll usageAll isQuiet forgiveness usedShare targetOf isDonor isTaker isDonation sumOver takenOf isLowest remainder shareGiven donated quietIn activeAfter targetsIn donorsIn closed shared plan wouldBe treeChecks costChecks roomChecks submitChecks tickChecks planChecks treeVerdict costing costingBy submitted submittedBy ticked tickedBy planned plannedBy digits digitsIn line refusalLine answerLine bytesOf numberOf isKind layout kindOf fieldsOf recordOf bodyOf recordBytes writing fieldsFrom behind readKind readAt rateChecks vrateChecks vrateInRange lentBy lentOf lentAfter vrated vratedBy tickLines shareLinesTo shareLines planLines verdictLines inPhase newestFault nodeChecks nodeStep modelStep startChecks startedBy started startStep recordStep readStep nextPlace stepped replayFrom replay
+unfolding sumTo anyTo joinTo tableFrom has setTo relative ratesInRange pageCost baseCost priceOf priced isNear isSequential costAt costOf parent weight last levelIn level countInRange weightInRange nodeFault faultTo treeFault isLeaf leavesOf onWayIn onWay isActive childSum shareIn shareOf baseShare baseShares isThin rebudget reshared rebased activated entered answerTo rowAfter queueAfter answerIn applied settled submission growth advanced repayment repaid releaseIn released capped turn turnOf releases tick waitingAll usageAll isQuiet forgiveness usedShare targetOf isDonor isTaker isDonation sumOver takenOf isLowest remainder shareGiven donated quietIn activeAfter targetsIn donorsIn closed shared plan wouldBe treeChecks costChecks roomChecks submitChecks tickChecks planChecks treeVerdict costing costingBy submitted submittedBy ticked tickedBy planned plannedBy digits digitsIn line refusalLine answerLine bytesOf numberOf isKind layout fieldsOf recordOf bodyOf recordBytes writing fieldsFrom behind readKind readAt rateChecks vrateChecks lentBy lentOf lentAfter vrated vratedBy tickLines shareLinesTo shareLines planLines verdictLines inPhase newestFault nodeChecks nodeStep modelStep startChecks startedBy started startStep recordStep readStep stepped replayFrom replay
 computed = tt
 
 -- ---- an entry of the list: a bench number, what the rules give, what the bench has

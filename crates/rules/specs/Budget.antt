@@ -212,7 +212,7 @@ queueAfter OnDebt id cost q = q
 queueAfter (Declined x) id cost q = q
 
 -- "4. If the bio waited .."
-unfoldable pub endsDonation : Answer → Bool
+abbrev pub endsDonation : Answer → Bool
 endsDonation Issued = false
 endsDonation Waits = true
 endsDonation OnDebt = true

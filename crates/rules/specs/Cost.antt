@@ -13,10 +13,10 @@ use Rattle.rules.specs.declared.cost.Bio.{Bio}
 use Rattle.rules.specs.declared.budget.Row.{Row}
 
 -- "bps is .."
-unfoldable pub bpsInRange : ℕ → Bool
+abbrev pub bpsInRange : ℕ → Bool
 bpsInRange bps = leb bpsLeast bps && leb bps bpsMost
 
-unfoldable pub iopsInRange : ℕ → Bool
+abbrev pub iopsInRange : ℕ → Bool
 iopsInRange iops = leb iopsLeast iops && leb iops iopsMost
 
 unfoldable pub ratesInRange : Rates → Bool
@@ -43,23 +43,23 @@ priced r = record {
 }
 
 -- "Bytes are .."; "first sector is .."; "flags have .."
-unfoldable pub bytesInRange : ℕ → Bool
+abbrev pub bytesInRange : ℕ → Bool
 bytesInRange bytes = leb sectorBytes bytes && leb bytes bytesMost && eqb (bytes % sectorBytes) 0
 
-unfoldable pub sectorInRange : ℕ → Bool
+abbrev pub sectorInRange : ℕ → Bool
 sectorInRange sector = leb sector sectorMost
 
-unfoldable pub flagsInRange : ℕ → Bool
+abbrev pub flagsInRange : ℕ → Bool
 flagsInRange flags = ltb flags 4
 
-unfoldable pub bioInRange : Bio → Bool
+abbrev pub bioInRange : Bio → Bool
 bioInRange b = bytesInRange (b .bytes) && sectorInRange (b .sector) && flagsInRange (b .flags)
 
 -- the two flags
-unfoldable pub isWrite : Bio → Bool
+abbrev pub isWrite : Bio → Bool
 isWrite b = eqb (b .flags % 2) 1
 
-unfoldable pub isForced : Bio → Bool
+abbrev pub isForced : Bio → Bool
 isForced b = eqb (b .flags / 2 % 2) 1
 
 -- "A bio is sequential if .."; "A leaf's first .."
@@ -70,7 +70,7 @@ unfoldable pub isSequential : Row → Bio → Bool
 isSequential row b = row .begun && isNear (b .sector) (row .end)
 
 -- "The end is .."
-unfoldable pub endOf : Bio → ℕ
+abbrev pub endOf : Bio → ℕ
 endOf b = b .sector + FLOOR (b .bytes) sectorBytes
 
 -- "Cost = .."

@@ -131,7 +131,7 @@ plan c =
     shared active donors bases targets (closed quiet active c)
 
 -- ---- "vrate is set .."
-unfoldable pub vrateInRange : ℕ → Bool
+abbrev pub vrateInRange : ℕ → Bool
 vrateInRange v = leb vrateLeast v && leb v vrateMost
 
 abbrev pub withVrate : ℕ → Controller → Controller

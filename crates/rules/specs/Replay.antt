@@ -183,7 +183,7 @@ readStep End s = silent s
 readStep (Unread x) s = stopsAt x s
 
 -- where the next record begins; at the end, and where nothing can be read, there is none
-unfoldable pub nextPlace : Read → ℕ → ℕ
+abbrev pub nextPlace : Read → ℕ → ℕ
 nextPlace (Found r next) place = next
 nextPlace End place = place
 nextPlace (Unread x) place = place

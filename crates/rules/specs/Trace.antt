@@ -47,7 +47,7 @@ total [] = 0
 total (w ∷ ws) = w + total ws
 
 -- ---- "Setup: 1 node .."; "After start: 4 bio .."
-unfoldable pub kindOf : Record → ℕ
+abbrev pub kindOf : Record → ℕ
 kindOf (Node p w) = 1
 kindOf (Model r) = 2
 kindOf (Start t) = 3

@@ -14,7 +14,7 @@ abbrev pub virt : ℕ → Virt
 virt n = record { 0 = n }
 
 -- "CEIL rounds .."
-unfoldable pub CEIL : ℕ → ℕ → ℕ
+abbrev pub CEIL : ℕ → ℕ → ℕ
 CEIL a b = (a + (b - 1)) / b
 
 abbrev pub FLOOR : ℕ → ℕ → ℕ
@@ -26,9 +26,9 @@ unfoldable pub relative : Abs → ℕ → Virt
 relative cost share = virt (CEIL (cost .0 * WHOLE) share)
 
 -- what a budget can repay at a share
-unfoldable pub repayable : Virt → ℕ → Abs
+abbrev pub repayable : Virt → ℕ → Abs
 repayable budget share = abs (FLOOR (budget .0 * share) WHOLE)
 
 -- plan holds usage against E: at the whole share an absolute nanosecond is one of virtual time
-unfoldable pub atWhole : Abs → Virt
+abbrev pub atWhole : Abs → Virt
 atWhole cost = virt (cost .0)

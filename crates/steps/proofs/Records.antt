@@ -137,7 +137,7 @@ never-before-start kind a b Stopped e h = true-not-false e refl
 
 pub setup-only : {read : Read} {r : Record} {next : ℕ} (p : Phase) {b : Bool} → read ≡ Found r next → b ≡ inPhase p (kindOf r) → b ≡ true
     → runs p read ≡ false → kindOf r < 4
-unfolding runs isCall callOf kindOf inPhase
+unfolding runs isCall callOf inPhase
 setup-only {read} {r} {next} p f e t h = go r (rw f at h) (sym e ∙ t)
   where
     go : (r : Record) → runs p (Found r next) ≡ false → inPhase p (kindOf r) ≡ true → kindOf r < 4
@@ -151,7 +151,6 @@ setup-only {read} {r} {next} p f e t h = go r (rw f at h) (sym e ∙ t)
 
 -- the arm for the rest has the calls' variants, from the fourth on
 kind-is : (r : Record) → kindOf r ≡ suc (tagOf the-type r)
-unfolding kindOf
 kind-is (Node p w) = refl
 kind-is (ModelOf q) = refl
 kind-is (Start time) = refl

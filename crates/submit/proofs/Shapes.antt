@@ -249,7 +249,7 @@ abbrev judged : Bio → Controller → Submitted
 judged b c = landed (b .node) (onLeaf b (costIn c b) (shareAt c (b .node)) (rowAt c (b .node)) (queueAt c (b .node))) c
 
 alike : (b : Bio) (c : Controller) (v : Verdict) → entered (b .node) c ≡ c → judgedBy v b c ≡ submittedBy v b c
-unfolding onLeafBy submittedBy submission wouldBe settled applied endsDonation
+unfolding onLeafBy submittedBy submission wouldBe settled applied
 alike b c Accepted t = rw t
 alike b c (Refused x) t = rw (set-getD (c .rows) (b .node) emptyRow, set-getD (c .queues) (b .node) emptyQueue)
 

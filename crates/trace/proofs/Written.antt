@@ -26,7 +26,7 @@ use Rattle.trace.proofs.Laid.{laid-one, laid-on, laid-length, length-bo
 
 -- a record's numbers are of the types of its fields, which are as wide as its layout says
 pub numbers-fit : (r : Record) (vs : List Val) → Is (row the-type) r vs → Fits r
-unfolding Fits layout kindOf fieldsOf
+unfolding Fits layout fieldsOf
 numbers-fit (Node p w) vs is = omega (arith, owed the-type the-laws (Node p w) vs is)
 numbers-fit (Model r) vs is = omega (arith, owed the-type the-laws (Model r) vs is)
 numbers-fit (Start t) vs is = omega (arith, owed the-type the-laws (Start t) vs is)
@@ -40,7 +40,7 @@ unfolding layout
 body-most = kinds (λ kind. total (layout kind) ≤ 48) (lit≤ tt) (lit≤ tt) (lit≤ tt) (lit≤ tt) (lit≤ tt) (lit≤ tt) (lit≤ tt)
 
 length-record : (r : Record) → length (recordBytes r) ≡ total (layout (kindOf r)) + 1
-unfolding recordBytes bodyOf bytesOf layout kindOf fieldsOf
+unfolding recordBytes bodyOf bytesOf layout fieldsOf
 length-record (Node p w) = refl
 length-record (Model r) = refl
 length-record (Start t) = refl

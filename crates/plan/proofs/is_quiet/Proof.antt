@@ -11,7 +11,6 @@ at-whole-requires : tie.Need-at-whole-requires
 at-whole-requires c κs = search needs
 
 mul-result : tie.Need-mul-result
-unfolding atWhole
 mul-result c = let small : c .before .at-whole .result .0 ≤ 2 ^ 38 = rw (c .before .at-whole .ensures) (c .before .before .pre) in search needs
 
 returns : tie.Need-returns

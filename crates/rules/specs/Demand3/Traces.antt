@@ -94,7 +94,7 @@ module _ (trace : List ℕ) where
     goes-on : (read : Read) → readAt trace place ≡ read
         → replayAfter n trace (nextPlace read place) (stepped read s .replay) .state
         ≡ run (cond (isCall (callOf read)) (callsIn read ++ callsFrom n trace (nextPlace read place)) []) (s .state)
-    unfolding recordStep isCall callOf callsIn inPhase kindOf nextPlace
+    unfolding recordStep isCall callOf callsIn inPhase
     goes-on (Found (Node p w) next) h = stops n next WrongPhase s _ (out (Node p w) next refl)
     goes-on (Found (ModelOf r) next) h = stops n next WrongPhase s _ (out (ModelOf r) next refl)
     goes-on (Found (Start time) next) h = stops n next WrongPhase s _ (out (Start time) next refl)
@@ -118,7 +118,7 @@ module _ (trace : List ℕ) where
   pub a-replay-goes-by-its-calls-from-start-on : (n place next time : ℕ) (s : Replay) → readAt trace place ≡ Found (Start time) next
       → s .phase ≡ Priced → started (s .tree) (s .rates) time .answer ≡ Accepted
       → replayAfter (suc n) trace place s .state ≡ run (callsFrom n trace next) (started (s .tree) (s .rates) time .state)
-  unfolding replayAfter nextPlace recordStep startStep inPhase kindOf
+  unfolding replayAfter recordStep startStep inPhase
   a-replay-goes-by-its-calls-from-start-on n place next time s h e taken =
       let here : stepped (Found (Start time) next) s ≡ startStep Accepted (started (s .tree) (s .rates) time .state) s =
       in-phase-is-carried-out s (ap isStopped e) (Start time) next (ap (λ (p : Phase). inPhase p 3) e)

@@ -53,7 +53,7 @@ pub data After (trace : List ℕ) (place : ℕ) (s : Replay) : Type 0 where
   ends : readAt trace place ≡ End → After trace place s
 
 pub after-a-step : (trace : List ℕ) (place : ℕ) (s : Replay) → After trace place s
-unfolding nextPlace readStep behind
+unfolding readStep behind
 after-a-step trace place s = by-phase (isStopped (s .phase)) refl
   where
     by-read : isStopped (s .phase) ≡ false → (read : Read) → readAt trace place ≡ read → After trace place s
@@ -83,7 +83,6 @@ stopped-is-silent (suc f) trace place s e =
     rw (replays-on f trace place s, stopped-steps (readAt trace place) s e) (stopped-is-silent f trace (nextAt trace place) s e)
 
 end-is-silent : (f : ℕ) (trace : List ℕ) (place : ℕ) (s : Replay) → readAt trace place ≡ End → replayFrom f trace place s ≡ []
-unfolding nextPlace
 end-is-silent zero trace place s e = rw (replays-one trace place s, e, end-steps s)
 end-is-silent (suc f) trace place s e = rw (replays-on f trace place s, e, end-steps s) (end-is-silent f trace place s e)
 
@@ -92,7 +91,6 @@ on-or-silent : {P : Type 0} (trace : List ℕ) (place : ℕ) (s : Replay)
     → (place < nextAt trace place → nextAt trace place ≤ length trace → P)
     → (((f : ℕ) → replayFrom f trace (nextAt trace place) (stepAt trace place s .replay) ≡ []) → P)
     → P
-unfolding nextPlace
 on-or-silent {P} trace place s on silence = go (after-a-step trace place s)
   where
     go : After trace place s → P
@@ -144,7 +142,6 @@ module _ (last : Bool) (here : List ℕ) where
       go false e on = one f room place s _ e on
 
 pub next-inside : (trace : List ℕ) (place : ℕ) → place ≤ length trace → nextAt trace place ≤ length trace
-unfolding nextPlace
 next-inside trace place h = go (readAt trace place) refl
   where
     go : (read : Read) → readAt trace place ≡ read → nextPlace read place ≤ length trace
@@ -238,7 +235,6 @@ Suffices f here place s = (isStopped (s .phase) ≡ true) ⊎ ((0 < f) × (lengt
 
 pub suffices-on : (here : List ℕ) (f place : ℕ) (s : Replay) → Suffices f here place s
     → Suffices f here (nextAt here place) (stepAt here place s .replay)
-unfolding nextPlace
 suffices-on here f place s (inl stopped) = inl (rw (stopped-steps (readAt here place) s stopped) stopped)
 suffices-on here f place s (inr turns) = go (after-a-step here place s)
   where

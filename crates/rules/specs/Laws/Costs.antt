@@ -44,11 +44,9 @@ pub record BioInRange (b : Bio) : Type 0 where
   pub flagsKnown : b .flags < 4
 
 bps-range : (n : ℕ) → (bpsInRange n ≡ true) ↔ ((bpsLeast ≤ n) × (n ≤ bpsMost))
-unfolding bpsInRange
 bps-range n = between bpsLeast n bpsMost
 
 iops-range : (n : ℕ) → (iopsInRange n ≡ true) ↔ ((iopsLeast ≤ n) × (n ≤ iopsMost))
-unfolding iopsInRange
 iops-range n = between iopsLeast n iopsMost
 
 pub rates-in-range : (r : Rates) → (ratesInRange r ≡ true) ↔ RatesInRange r
@@ -71,7 +69,6 @@ rates-in-range r =
     )
 
 pub bio-in-range : (b : Bio) → (bioInRange b ≡ true) ↔ BioInRange b
-unfolding bioInRange bytesInRange sectorInRange flagsInRange
 bio-in-range b =
     let whole : (eqb (b .bytes % sectorBytes) 0 ≡ true) ↔ (b .bytes % sectorBytes ≡ 0) = (eqb-true _ _, eq-eqb _ _) in
     let known : (ltb (b .flags) 4 ≡ true) ↔ (b .flags < 4) = (ltb-true _ _, lt-ltb _ _) in
@@ -124,7 +121,6 @@ abbrev pub pagesMost : ℕ
 pagesMost = 256
 
 pub pages-range : (b : Bio) → bioInRange b ≡ true → (1 ≤ CEIL (b .bytes) pageBytes) × (CEIL (b .bytes) pageBytes ≤ pagesMost)
-unfolding CEIL
 pages-range b e = let w = bio-in-range b .0 e .bytesFit in (omega arith, omega arith)
 
 pub base-cost-most : {p : Price} → SoundPrice p → (sequential : Bool) → cond sequential (p .sequential .0) (p .random .0) ≤ second
@@ -161,7 +157,6 @@ unfolding isSequential
 first-bio-is-random row b e = and-not-left (row .begun) (isNear (b .sector) (row .end)) e
 
 pub end-most : (b : Bio) → bioInRange b ≡ true → endOf b ≤ endMost
-unfolding endOf
 end-most b e = let w = bio-in-range b .0 e in omega arith
 
 -- ---- refusal 3 exactly when a rate is out of range

@@ -30,7 +30,7 @@ shifted-steps k End s = refl
 shifted-steps k (Unread x) s = refl
 
 shifted-next : (k : ℕ) (read : Read) (at : ℕ) → nextPlace (shifted k read) (k + at) ≡ k + nextPlace read at
-unfolding shifted nextPlace
+unfolding shifted
 shifted-next k (Found r next) at = refl
 shifted-next k End at = refl
 shifted-next k (Unread x) at = refl

@@ -133,7 +133,6 @@ unfolding submitted submittedBy submission wouldBe
 answered-state b c e = ap (λ (v : Verdict). submittedBy v b c .state) e
 
 waits-or-owes : (a : Answer) → (a ≡ Waits) ⊎ (a ≡ OnDebt) → endsDonation a ≡ true
-unfolding endsDonation
 waits-or-owes a (inl e) = rw e
 waits-or-owes a (inr e) = rw e
 
@@ -150,7 +149,7 @@ module _ {c : Controller} (s : Sound c) (b : Bio) where
   pub an-issued-bio-is-charged : submitted b c .answer ≡ Issued
       → submitted b c .state
       ≡ putLeaf (b .node) (noted b (charged (costIn c b) (shareAt c (b .node)) (rowAt c (b .node)))) (queueAt c (b .node)) c
-  unfolding settled applied endsDonation rowAfter queueAfter
+  unfolding settled applied rowAfter queueAfter
   an-issued-bio-is-charged i =
       let taken : firstOf (submitChecks b c) ≡ Accepted = issued-is-accepted b c i in
       let would : wouldBe c b ≡ Issued = sym (not-refused-is-answered b c taken) ∙ i in

@@ -45,7 +45,7 @@ tick-passes time places c e =
 
 -- ---- vrate
 pub vrate-passes : (v : ℕ) → firstOf (vrateChecks v) ≡ Accepted → (vrateLeast ≤ v) × (v ≤ vrateMost)
-unfolding vrateChecks vrateInRange
+unfolding vrateChecks
 vrate-passes v e = between vrateLeast v vrateMost .0 (not-false _ (check-passed _ _ _ e .0))
 
 -- ---- start

@@ -359,7 +359,7 @@ module _ {c : Controller} (s : Sound c) where
   pub half-of-a-debt-is-forgiven-when-quiet : 2 * usageAll c .0 < c .clock .since .0 → (n : ℕ)
       → (Ledger.forgiven Call.plan c n ≡ FLOOR (rowAt c n .debt .0) 2)
       × (rowAt (planned c .state) n .debt .0 ≡ rowAt c n .debt .0 - FLOOR (rowAt c n .debt .0) 2)
-  unfolding Ledger.forgiven forgivenAt quietIn isQuiet forgiveness atWhole
+  unfolding Ledger.forgiven forgivenAt quietIn isQuiet forgiveness
   half-of-a-debt-is-forgiven-when-quiet h n =
       let quiet : ltb (2 * usageAll c .0) (c .clock .since .0) ≡ true = lt-ltb _ _ h in
       (rw (quiet-is-accepted h, quiet), rw (an-accepted-plan-plans (quiet-is-accepted h)) (rw quiet at (plan-debt n)))
@@ -367,7 +367,7 @@ module _ {c : Controller} (s : Sound c) where
   -- "Halving debt when the device was busy" must not slip through
   pub nothing-is-forgiven-when-busy : c .clock .since .0 ≤ 2 * usageAll c .0 → (n : ℕ)
       → (Ledger.forgiven Call.plan c n ≡ 0) × (rowAt (planned c .state) n .debt .0 ≡ rowAt c n .debt .0)
-  unfolding Ledger.forgiven forgivenAt quietIn isQuiet forgiveness atWhole planned plannedBy
+  unfolding Ledger.forgiven forgivenAt quietIn isQuiet forgiveness planned plannedBy
   nothing-is-forgiven-when-busy h n = go (firstOf (planChecks c))
     where
       busy : ltb (2 * usageAll c .0) (c .clock .since .0) ≡ false

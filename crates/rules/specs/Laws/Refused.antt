@@ -264,7 +264,7 @@ vrate-refuses v c x = go (firstOf (vrateChecks v))
     go (Refused y) = (λ e. e, λ e. e)
 
 pub refusal-15-exactly-when : (v : ℕ) (c : Controller) → (vrated v c .answer ≡ Refused BadVrate) ↔ ((vrateLeast ≤ v) × (v ≤ vrateMost) → ⊥)
-unfolding vrateChecks vrateInRange
+unfolding vrateChecks
 refusal-15-exactly-when v c =
     let out = exactly-not (leb vrateLeast v && leb v vrateMost) (between vrateLeast v vrateMost) in
     exactly (vrate-refuses v c BadVrate)

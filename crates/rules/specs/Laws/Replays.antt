@@ -150,7 +150,7 @@ stepped-plays read s h = go (isStopped (s .phase))
 
 -- ---- ".. otherwise it goes on": a call, refused or not, leaves the replay in its phase
 pub calls-go-on : (r : Record) (s : Replay) → 4 ≤ kindOf r → recordStep r s .replay .phase ≡ s .phase
-unfolding recordStep kindOf
+unfolding recordStep
 calls-go-on (Node p w) s h = absurd (omega arith)
 calls-go-on (ModelOf r) s h = absurd (omega arith)
 calls-go-on (Start time) s h = absurd (omega arith)
@@ -185,7 +185,7 @@ module _ (s : Replay) (goes : isStopped (s .phase) ≡ false) where
     stops : (x : Refusal) → step (Refused x) ≡ stopsAt x s
 
   setup-step : (r : Record) → kindOf r < 4 → SetupStep r
-  unfolding kindOf recordStep nodeStep modelStep startStep nodeChecks rateChecks startChecks treeChecks
+  unfolding recordStep nodeStep modelStep startStep nodeChecks rateChecks startChecks treeChecks
   setup-step (Node p w) k = record {
     checks = nodeChecks (grown p w (s .tree));
     no-18 = refl;

@@ -54,7 +54,7 @@ in-running Stopped e = absurd (true-not-false e refl)
 -- in a replay that runs a call's record is in its phase, and does what the call does
 called-step : (r : Record) (next : ℕ) (s : Replay) → s .phase ≡ Running → isCall (callOf (Found r next)) ≡ true
     → readStep (Found r next) s ≡ goesOn (calling (callOf (Found r next)) (s .state)) s
-unfolding isCall callOf calling readStep recordStep inPhase kindOf
+unfolding isCall callOf calling readStep recordStep inPhase
 called-step (Node p w) next s e h = absurd (true-not-false h refl)
 called-step (ModelOf r) next s e h = absurd (true-not-false h refl)
 called-step (Start time) next s e h = absurd (true-not-false h refl)
@@ -90,7 +90,7 @@ module _ (trace : List ℕ) where
 
   -- a call's record takes a byte at least
   pub call-moves : (place : ℕ) → isCall (callAt place) ≡ true → (place < nextAt trace place) × (nextAt trace place ≤ length trace)
-  unfolding isCall callOf nextPlace behind
+  unfolding isCall callOf behind
   call-moves place = go (readAt trace place) refl
     where
       go : (read : Read) → readAt trace place ≡ read → isCall (callOf read) ≡ true → (place < nextPlace read place) × (nextPlace read place ≤ length trace)

@@ -128,7 +128,7 @@ unfolding isThin last anyTo
 no-tree-thick = refl
 
 slowest-valid : ratesInRange slowest ≡ true
-unfolding ratesInRange bpsInRange iopsInRange
+unfolding ratesInRange
 slowest-valid = refl
 
 pub start-gives : (t : Tree) (r : Rates) (time : ℕ) → Sound (started t r time .state)

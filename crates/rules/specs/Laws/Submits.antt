@@ -63,7 +63,7 @@ module _ (b : Bio) (cost : Abs) (share : ℕ) (r : Row) (q : Queue) (pos : 0 < s
   where
     pub answer-keeps : (a : Answer) → Fair a cost share r q
         → AnswerKeeps a (cost .0) share r q (noted b (rowAfter a cost share r)) (queueAfter a (b .id) cost q)
-    unfolding rowAfter queueAfter endsDonation
+    unfolding rowAfter queueAfter
     answer-keeps Issued f =
         let p = fitting-charge-pays cost share r pos (f .fit refl) in
         record {

@@ -132,7 +132,7 @@ kinds P p1 p2 p3 p4 p5 p6 p7 (suc (suc (suc (suc (suc (suc (suc (suc kind)))))))
     absurd (omega arith)
 
 pub kind-known : (r : Record) → isKind (kindOf r) ≡ true
-unfolding isKind kindOf
+unfolding isKind
 kind-known (Node p w) = refl
 kind-known (Model r) = refl
 kind-known (Start t) = refl
@@ -142,7 +142,7 @@ kind-known Plan = refl
 kind-known (Vrate v) = refl
 
 pub record-of-fields : (r : Record) → recordOf (kindOf r) (fieldsOf r) ≡ r
-unfolding kindOf fieldsOf recordOf
+unfolding fieldsOf recordOf
 record-of-fields (Node p w) = refl
 record-of-fields (Model r) = refl
 record-of-fields (Start t) = refl
@@ -152,7 +152,7 @@ record-of-fields Plan = refl
 record-of-fields (Vrate v) = refl
 
 pub kind-of-record : (fs : List ℕ) (kind : ℕ) → isKind kind ≡ true → kindOf (recordOf kind fs) ≡ kind
-unfolding kindOf recordOf
+unfolding recordOf
 kind-of-record fs = kinds (λ kind. kindOf (recordOf kind fs) ≡ kind) refl refl refl refl refl refl refl
 
 pub fields-of-record : (bs : List ℕ) (kind : ℕ) → isKind kind ≡ true
@@ -408,7 +408,7 @@ counting n = tableFrom (λ i. i) 1 n
 pub one-of-each-in-bytes :
     traceOf oneOfEach
     ≡ (1 ∷ counting 3) ++ ((2 ∷ counting 48) ++ ((3 ∷ counting 8) ++ ((4 ∷ counting 18) ++ ((5 ∷ counting 8) ++ ((6 ∷ []) ++ (7 ∷ counting 2))))))
-unfolding traceOf oneOfEach recordBytes bodyOf bytesOf layout kindOf fieldsOf tableFrom
+unfolding traceOf oneOfEach recordBytes bodyOf bytesOf layout fieldsOf tableFrom
 one-of-each-in-bytes = refl
 
 -- what is read to the end writes back as the same bytes

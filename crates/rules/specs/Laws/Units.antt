@@ -15,15 +15,12 @@ use Rattle.rules.specs.declared.units.Virt.{Virt}
 
 -- ---- "CEIL rounds a quotient up": enough, the least that is enough, and less than one part too much
 pub ceil-enough : (a b : ℕ) → 0 < b → a ≤ CEIL a b * b
-unfolding CEIL
 ceil-enough a b p = omega (arith, lt-div-mul-add {a = a + (b - 1)} p)
 
 pub ceil-least : (a b k : ℕ) → 0 < b → a ≤ k * b → CEIL a b ≤ k
-unfolding CEIL
 ceil-least a b k p h = omega (arith, div-lt-iff-lt-mul {x = a + (b - 1)} {y = suc k} p .1 (omega (arith, suc-mul k b)))
 
 pub ceil-close : (a b : ℕ) → 0 < b → CEIL a b * b ≤ a + (b - 1)
-unfolding CEIL
 ceil-close a b p = div-mul-le-self (a + (b - 1)) b
 
 -- ---- "FLOOR down": within, the most that is within, and less than one part too little
@@ -51,20 +48,17 @@ relative-cost-is-close cost share p = ceil-close (cost .0 * WHOLE) share p
 
 -- why plan may hold a usage against E
 pub relative-cost-at-the-whole-share : (cost : Abs) → relative cost WHOLE ≡ atWhole cost
-unfolding relative CEIL atWhole
+unfolding relative
 relative-cost-at-the-whole-share cost = ap virt (omega arith)
 
 -- what a budget can repay is the most that it can be charged
 pub repayable-is-within : (budget : Virt) (share : ℕ) → repayable budget share .0 * WHOLE ≤ budget .0 * share
-unfolding repayable
 repayable-is-within budget share = floor-within (budget .0 * share) WHOLE
 
 pub repayable-is-most : (budget : Virt) (share k : ℕ) → k * WHOLE ≤ budget .0 * share → k ≤ repayable budget share .0
-unfolding repayable
 repayable-is-most budget share k h = floor-most (budget .0 * share) WHOLE k (omega arith) h
 
 pub repayable-is-close : (budget : Virt) (share : ℕ) → budget .0 * share < repayable budget share .0 * WHOLE + WHOLE
-unfolding repayable
 repayable-is-close budget share = floor-close (budget .0 * share) WHOLE (omega arith)
 
 pub repayable-is-affordable : (budget : Virt) (share : ℕ) → 0 < share → relative (repayable budget share) share .0 ≤ budget .0

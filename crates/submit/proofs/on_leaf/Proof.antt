@@ -35,7 +35,9 @@ row-after-requires c κs =
     can-take (forcing .before .pre) (forcing .is-forced .ensures) (judging .before .answer-to .ensures) (judging .room .ensures)
 
 end-of-requires : tie.Need-end-of-requires
-end-of-requires c κs = bio-in-range _ .0 (c .before .before .before .before .before .before .pre .range) .sectorFits
+end-of-requires c κs =
+    let start = c .before .before .before .before .before .before in
+    bio-in-range (start .args .bio) .0 (start .pre .range) .sectorFits
 
 noted-requires : tie.Need-noted-requires
 noted-requires c κs = search needs

@@ -7,7 +7,7 @@ use Rattle.controller.proofs.start.slowest.Statement.{statement}
 use Rattle.controller.proofs.start.slowest.Tie as tie
 
 returns : tie.Need-returns
-unfolding priced priceOf pageCost baseCost CEIL
+unfolding priced priceOf pageCost baseCost
 returns c = refl
 
 pub slowest-spec : {M : Type 1} → statement M

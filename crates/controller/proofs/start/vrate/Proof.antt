@@ -15,11 +15,19 @@ in-range-requires c κs = search needs
 
 returns : tie.Need-returns
 unfolding vrated vratedBy vrateChecks
-returns c = let e : vrateInRange (c .before .before .before .args .v) ≡ true = sym (c .before .before .in-range .ensures) ∙ c .before .if1 .taken in both (rw e) (vrate-on-paper _ _)
+returns c =
+    let test = c .before .before in
+    let a = test .before .args in
+    let e : vrateInRange (a .v) ≡ true = sym (test .in-range .ensures) ∙ c .before .if1 .taken in
+    both (rw e) (vrate-on-paper (a .v) (a .c))
 
 returns-2 : tie.Need-returns-2
 unfolding vrated vratedBy vrateChecks
-returns-2 c = let e : vrateInRange (c .before .before .args .v) ≡ false = sym (c .before .in-range .ensures) ∙ c .if1 .left in both (rw e) (vrate-on-paper _ _)
+returns-2 c =
+    let test = c .before in
+    let a = test .before .args in
+    let e : vrateInRange (a .v) ≡ false = sym (test .in-range .ensures) ∙ c .if1 .left in
+    both (rw e) (vrate-on-paper (a .v) (a .c))
 
 pub vrate-spec : {M : Type 1} → statement M
 vrate-spec = tie.close (tie.spec in-range-requires returns returns-2)

@@ -18,7 +18,6 @@ use Rattle.cost.proofs.bio.cost_at.Statement.{statement}
 use Rattle.cost.proofs.bio.cost_at.Tie as tie
 
 few : (bytes pages : ℕ) → bytes ≤ bytesMost → pages ≡ CEIL bytes pageBytes → pages ≤ pagesMost
-unfolding CEIL
 few bytes pages h e = omega arith
 
 pages-fit : {p : Price} (pages : ℕ) → SoundPrice p → pages ≤ pagesMost → Fits w64 (p .page .0 * pages)

@@ -46,10 +46,11 @@ is-sequential-requires : tie.Need-is-sequential-requires
 is-sequential-requires c κs = search needs
 
 cost-at-requires : tie.Need-cost-at-requires
-cost-at-requires c κs = (
-  rw (c .before .price-for .ensures) (price-of-bio-sound (c .before .before .before .before .pre) (isWrite (c .before .before .before .before .args .bio))),
-  bio-in-range _ .0 (sym (c .before .before .before .in-range .ensures) ∙ c .before .before .if1 .taken) .bytesFit .1,
-)
+cost-at-requires c κs =
+    let start = c .before .before .before .before in (
+      rw (c .before .price-for .ensures) (price-of-bio-sound (start .pre) (isWrite (start .args .bio))),
+      bio-in-range (start .args .bio) .0 (sym (c .before .before .before .in-range .ensures) ∙ c .before .before .if1 .taken) .bytesFit .1,
+    )
 
 returns : tie.Need-returns
 returns c =
