@@ -9,16 +9,16 @@ use Prim.Native.Nat.{ℕ, _+_, _-_}
 use lib.Dec.{eqb}
 use lib.ListN.{getD}
 use Rattle.rules.specs.Words.{sumTo, anyTo, joinTo, tableFrom, has, setTo, noNode}
-use Rattle.rules.specs.Units.{abs, virt, CEIL, relative, repayable, atWhole}
-use Rattle.rules.specs.Cost.{bpsInRange, iopsInRange, ratesInRange, pageCost, baseCost, priceOf, priced, bytesInRange, sectorInRange, flagsInRange, bioInRange, isWrite, isForced, isNear, isSequential, endOf, costAt, costOf}
+use Rattle.rules.specs.Units.{abs, virt, relative}
+use Rattle.rules.specs.Cost.{ratesInRange, pageCost, baseCost, priceOf, priced, isNear, isSequential, costAt, costOf}
 use Rattle.rules.specs.Tree.{parent, weight, last, levelIn, level, countInRange, weightInRange, nodeFault, faultTo, treeFault, newestFault, isLeaf, leavesOf, onWayIn, onWay, isActive, childSum, shareIn, shareOf, baseShare, baseShares, isThin}
-use Rattle.rules.specs.Budget.{emptyRow, freshClock, fresh, rowAt, queueAt, shareAt, withClock, withSharing, withBooks, withTimes, withRate, putLeaf, withBudget, rebudget, reshared, rebased, activated, entered, answerTo, rowAfter, queueAfter, endsDonation, answerIn, applied, settled, submission, wouldBe}
+use Rattle.rules.specs.Budget.{emptyRow, freshClock, fresh, rowAt, queueAt, shareAt, withClock, withSharing, withBooks, withTimes, withRate, putLeaf, withBudget, rebudget, reshared, rebased, activated, entered, answerTo, rowAfter, queueAfter, answerIn, applied, settled, submission, wouldBe}
 use Rattle.rules.specs.Tick.{growth, advanced, repayment, repaid, releaseIn, released, capped, turn, turnOf, releases, lentAfter, tick, waitingAll}
-use Rattle.rules.specs.Plan.{usageAll, isQuiet, forgiveness, usedShare, targetOf, isDonor, isTaker, isDonation, sumOver, takenOf, isLowest, remainder, shareGiven, donated, quietIn, activeAfter, targetsIn, donorsIn, closed, shared, plan, vrateInRange}
+use Rattle.rules.specs.Plan.{usageAll, isQuiet, forgiveness, usedShare, targetOf, isDonor, isTaker, isDonation, sumOver, takenOf, isLowest, remainder, shareGiven, donated, quietIn, activeAfter, targetsIn, donorsIn, closed, shared, plan}
 use Rattle.rules.specs.Refusals.{verdictNumber, treeChecks, nodeChecks, rateChecks, startChecks, costChecks, roomChecks, submitChecks, tickChecks, planChecks, vrateChecks}
 use Rattle.rules.specs.Entries.{treeVerdict, costing, costingBy, started, startedBy, submitted, submittedBy, ticked, tickedBy, lentBy, lentOf, planned, plannedBy, vrated, vratedBy}
-use Rattle.rules.specs.Trace.{bytesOf, numberOf, isKind, layout, kindOf, fieldsOf, recordOf, bodyOf, recordBytes, writing, fieldsFrom, behind, readKind, readAt}
-use Rattle.rules.specs.Replay.{digits, digitsIn, line, refusalLine, answerLine, tickLines, shareLinesTo, shareLines, planLines, verdictLines, inPhase, nodeStep, modelStep, startStep, recordStep, readStep, nextPlace, stepped, replayFrom, replay}
+use Rattle.rules.specs.Trace.{bytesOf, numberOf, isKind, layout, fieldsOf, recordOf, bodyOf, recordBytes, writing, fieldsFrom, behind, readKind, readAt}
+use Rattle.rules.specs.Replay.{digits, digitsIn, line, refusalLine, answerLine, tickLines, shareLinesTo, shareLines, planLines, verdictLines, inPhase, nodeStep, modelStep, startStep, recordStep, readStep, stepped, replayFrom, replay}
 use Rattle.rules.specs.declared.cost.Rates.{Rates}
 use Rattle.rules.specs.declared.cost.Model.{Model}
 use Rattle.rules.specs.declared.cost.Bio.{Bio}

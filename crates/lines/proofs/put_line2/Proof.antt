@@ -34,9 +34,11 @@ done-at : (c : tie.After-slice-known3) →
     (putBack (first .put-start .last .1 .1 .1 .0) (first .put-start .result) (second .put-number .last .1 .1 .0)) (first .put-start .result + second .put-number .result)
 done-at c =
     let second = c .before .before in
+    let called = second .before .before .before .before in
+    let start = called .before .before .before in
     let first = first-at (second .before .before) in
     let all =
-    stands-more (first .0) (digits (second .before .before .before .before .before .before .before .args .b) ++ (10 ∷ [])) (second .put-number .last .1 .1 .0) (second .put-number .result) (second .put-number .ensures)
+    stands-more (first .0) (digits (start .args .b) ++ (10 ∷ [])) (second .put-number .last .1 .1 .0) (second .put-number .result) (second .put-number .ensures)
     (omega (arith, first .1, rw length-append at (second .put-number .ensures .0))) in
     rw line-two (simp append-assoc (simp append-assoc at all))
 

@@ -2,7 +2,6 @@
 -- Assumes nothing.
 use Prim.Native.Nat.{_^_, _≤_}
 use borrow.Author.Needs.{needs}
-use Rattle.rules.specs.Units.{atWhole}
 use Rattle.rules.specs.Plan.{isQuiet}
 use Rattle.plan.proofs.is_quiet.Statement.{statement}
 use Rattle.plan.proofs.is_quiet.Tie as tie

@@ -10,7 +10,7 @@ use lib.Dec.{eqb, leb, ltb}
 use borrow.Author.Tests.{ltb-true, ltb-false, lt-ltb, le-ltb, eqb-true, eq-eqb}
 use Rattle.rules.specs.Numbers.{bpsLeast, bpsMost, iopsLeast, iopsMost, second, pageBytes, sectorBytes, bytesMost, sectorMost, nearMost, costMost, endMost}
 use Rattle.rules.specs.Units.{CEIL}
-use Rattle.rules.specs.Cost.{bpsInRange, iopsInRange, ratesInRange, pageCost, baseCost, priceOf, priced, bytesInRange, sectorInRange, flagsInRange, bioInRange, isWrite, isNear, isSequential, endOf, costAt, costOf}
+use Rattle.rules.specs.Cost.{bpsInRange, iopsInRange, ratesInRange, pageCost, baseCost, priceOf, priced, bioInRange, isWrite, isNear, isSequential, endOf, costAt, costOf}
 use Rattle.rules.specs.Refusals.{rateChecks, costChecks}
 use Rattle.rules.specs.Entries.{pricingBy, pricing, costingBy, costing}
 use Rattle.rules.specs.Invariant.{SoundPrice, SoundModel}

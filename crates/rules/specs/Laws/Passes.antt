@@ -7,7 +7,6 @@ use borrow.Author.Tests.{ltb-false, not-false}
 use Rattle.rules.specs.Numbers.{vrateLeast, vrateMost}
 use Rattle.rules.specs.Cost.{ratesInRange}
 use Rattle.rules.specs.Tree.{treeFault, isThin}
-use Rattle.rules.specs.Plan.{vrateInRange}
 use Rattle.rules.specs.Refusals.{firstOf, treeChecks, rateChecks, startChecks, tickChecks, vrateChecks}
 use Rattle.rules.specs.Entries.{started, startedBy}
 use Rattle.rules.specs.Invariant.{TickPasses}

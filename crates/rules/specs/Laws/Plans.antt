@@ -12,7 +12,7 @@ use lib.ListN.{length, getD, List·getD-eq-default}
 use borrow.Author.Tests.{ne-eqb, ltb-true, not-true, lt-ltb, le-ltb}
 use Rattle.rules.specs.Numbers.{WHOLE, nodesMost, leafMost, shareFloor}
 use Rattle.rules.specs.Words.{sumTo, has, noNode}
-use Rattle.rules.specs.Units.{abs, FLOOR, atWhole}
+use Rattle.rules.specs.Units.{abs, FLOOR}
 use Rattle.rules.specs.Tree.{baseShares}
 use Rattle.rules.specs.Budget.{emptyRow, rowAt, queueAt, shareAt, withDebt, owes, waits, reshared}
 use Rattle.rules.specs.Plan.{usageAll, isQuiet, forgiveness, forgiven, stays, rested, targetOf, isDonor, isDonation, donated, restarted, quietIn, activeAfter, targetsIn, donorsIn, closed, shared, plan}

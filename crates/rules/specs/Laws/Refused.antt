@@ -14,7 +14,6 @@ use Rattle.rules.specs.Cost.{ratesInRange, bioInRange}
 use Rattle.rules.specs.Tree.{isLeaf, treeFault, isThin}
 use Rattle.rules.specs.Budget.{fresh, rowAt, queueAt, submission, wouldBe}
 use Rattle.rules.specs.Tick.{growth, waitingAll}
-use Rattle.rules.specs.Plan.{vrateInRange}
 use Rattle.rules.specs.Refusals.{Check, _⇒_, firstOf, isFault, isWait, isDebt, costChecks, roomChecks, submitChecks, tickChecks, planChecks, vrateChecks, treeChecks, rateChecks, startChecks}
 use Rattle.rules.specs.Entries.{submittedBy, submitted, tickedBy, ticked, lentBy, lentOf, plannedBy, planned, vratedBy, vrated, startedBy, started, noTree, slowestModel}
 use Rattle.rules.specs.Laws.Bools.{never, true-not-false, exactly, exactly-both, exactly-not, at-most, between}

@@ -10,7 +10,7 @@ use lib.Dec.{leb}
 use lib.ListN.{length, length-append}
 use borrow.Author.Tests.{leb-true, le-leb, le-ltb}
 use Rattle.rules.specs.Numbers.{lineRoom}
-use Rattle.rules.specs.Trace.{kindOf, behind, readAt}
+use Rattle.rules.specs.Trace.{behind, readAt}
 use Rattle.rules.specs.Replay.{within, goesOn, inPhase, isStopped, allRoom, recordStep, readStep, nextPlace, stepped}
 use Rattle.rules.specs.Chunks.{isEnd, isCut, wantsBytes, halts, printedBefore, partFrom, callOf, isCall, isRunning, runs, calling, Run, still, calledBefore, runFrom}
 use Rattle.rules.specs.Invariant.{Sound}

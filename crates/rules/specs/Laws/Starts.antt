@@ -8,7 +8,7 @@ use lib.ListN.{getD, replicate, length-replicate}
 use Rattle.rules.specs.Numbers.{nodesMost, leafMost, queueRoom}
 use Rattle.rules.specs.Words.{anyTo, has, noNode}
 use Rattle.rules.specs.Units.{abs}
-use Rattle.rules.specs.Cost.{ratesInRange, bpsInRange, iopsInRange, priced}
+use Rattle.rules.specs.Cost.{ratesInRange, priced}
 use Rattle.rules.specs.Tree.{last, baseShare, baseShares, isThin}
 use Rattle.rules.specs.Budget.{fresh, rowAt, queueAt, shareAt, withClock, emptyRow, emptyQueue, withRate}
 use Rattle.rules.specs.Plan.{withVrate}

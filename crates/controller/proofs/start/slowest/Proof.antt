@@ -1,7 +1,6 @@
 -- `slowest` meets its contract: the prices are those of the slowest rates.
 -- Assumes nothing.
 use mathlib.Core.Path.{refl}
-use Rattle.rules.specs.Units.{CEIL}
 use Rattle.rules.specs.Cost.{pageCost, baseCost, priceOf, priced}
 use Rattle.controller.proofs.start.slowest.Statement.{statement}
 use Rattle.controller.proofs.start.slowest.Tie as tie

@@ -35,41 +35,51 @@ refused-requires-2 c κs = search needs
 enum-known-model : tie.Need-enum-known-model
 enum-known-model c = search needs
 
+-- ---- stations: the tree is judged, then the rates are priced
+abbrev judged : tie.After-price → tie.After-check
+judged priced = priced .before .before .before
+
+fine : (priced : tie.After-price) → treeVerdict (judged priced .before .args .tree) ≡ Accepted
+fine priced = sym (judged priced .check .ensures .0) ∙ priced .before .enum-told .given .1
+
 leaves-requires : tie.Need-leaves-requires
 leaves-requires c κs =
-    let fine : treeVerdict (c .before .before .before .before .before .before .before .args .tree) ≡ Accepted = sym (c .before .before .before .before .before .before .check .ensures .0) ∙ c .before .before .before .before .enum-told .given .1 in
-    sound-tree (c .before .before .before .before .before .before .before .args .tree) (accepted-exactly-when (c .before .before .before .before .before .before .before .args .tree) .0 fine .0)
+    let priced = c .before .before .before in
+    let tree = judged priced .before .args .tree in
+    sound-tree tree (accepted-exactly-when tree .0 (fine priced) .0)
 
 new-requires : tie.Need-new-requires
 new-requires c κs = search needs
 
 returns : tie.Need-returns
 returns c =
-    let start = c .before .before .before .before .before in
+    let told = c .before .before in
+    let judged = told .before .before in
+    let a = judged .before .args in
     both
-    (c .refused .ensures (start .args .tree) (start .args .rates) (start .args .time)
-    ∙ sym (tree-refuses (start .args .tree) (start .args .rates) (start .args .time) _ (sym (c .before .before .before .before .check .ensures .0) ∙ c .before .before .x .given .1)))
-    (start-on-paper _ _ (start .args .time))
+    (c .refused .ensures (a .tree) (a .rates) (a .time)
+    ∙ sym (tree-refuses (a .tree) (a .rates) (a .time) _ (sym (judged .check .ensures .0) ∙ told .x .given .1)))
+    (start-on-paper _ _ (a .time))
 
 returns-2 : tie.Need-returns-2
 returns-2 c =
-    let start = c .before .before .before .before .before .before .before .before in
+    let told = c .before .before in
+    let priced = told .before .before in
+    let a = judged priced .before .args in
     both
-    (c .refused2 .ensures (start .args .tree) (start .args .rates) (start .args .time)
-    ∙ sym (rates-refuse (start .args .tree) (start .args .rates) (start .args .time) _
-    (sym (c .before .before .before .before .before .before .before .check .ensures .0) ∙ c .before .before .before .before .before .enum-told .given .1)
-    (sym (c .before .before .before .before .price .ensures .0) ∙ c .before .before .x2 .given .1)))
-    (start-on-paper _ _ (start .args .time))
+    (c .refused2 .ensures (a .tree) (a .rates) (a .time)
+    ∙ sym (rates-refuse (a .tree) (a .rates) (a .time) _ (fine priced) (sym (priced .price .ensures .0) ∙ told .x2 .given .1)))
+    (start-on-paper _ _ (a .time))
 
 returns-3 : tie.Need-returns-3
 returns-3 c =
-    let start = c .before .before .before .before .before .before .before .before .before in
+    let told = c .before .before .before in
+    let priced = told .before .before in
+    let a = judged priced .before .args in
     both
     (rw (c .new .ensures .0, c .before .leaves .ensures)
-    (sym (start-accepts (start .args .tree) (start .args .rates) (start .args .time) _
-    (sym (c .before .before .before .before .before .before .before .before .check .ensures .0) ∙ c .before .before .before .before .before .before .enum-told .given .1)
-    (sym (c .before .before .before .before .before .price .ensures .0) ∙ c .before .before .before .model .given .1))))
-    (start-on-paper _ _ (start .args .time))
+    (sym (start-accepts (a .tree) (a .rates) (a .time) _ (fine priced) (sym (priced .price .ensures .0) ∙ told .model .given .1))))
+    (start-on-paper _ _ (a .time))
 
 pub start-spec : {M : Type 1} → statement M
 start-spec =

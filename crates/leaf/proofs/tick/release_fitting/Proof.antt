@@ -65,15 +65,20 @@ charged-requires c κs =
     first-is-payable (at .inv) cost (first-told (at .inv) cost (test .before .fits2 .ensures) (test .if1 .taken))
 
 popped-requires : tie.Need-popped-requires Inv-loop μ-loop
-popped-requires c κs = (c .before .before .before .before .before .before .before .loop .inv .ready .waiting .head-in, omega (arith, c .before .before .before .before .before .before .loop-test .taken))
+popped-requires c κs =
+    let goes = c .before .before .before .before .before .before in
+    (goes .before .loop .inv .ready .waiting .head-in, omega (arith, goes .loop-test .taken))
 
 add-count : tie.Need-add-count Inv-loop μ-loop
 add-count c =
-    let at = c .before .before .before .before .before .before .before .before in
-    omega (arith, at .loop .inv .room, c .before .before .before .before .before .before .before .loop-test .taken, at .before .before .good)
+    let goes = c .before .before .before .before .before .before .before in
+    let at = goes .before in
+    omega (arith, at .loop .inv .room, goes .loop-test .taken, at .before .before .good)
 
 loop-less : tie.Need-loop-less Inv-loop μ-loop
-loop-less c = popped-is-shorter (c .before .before .before .before .before .before .before .before .loop .queue) (c .popped .ensures) (omega (arith, c .before .before .before .before .before .before .before .loop-test .taken))
+loop-less c =
+    let goes = c .before .before .before .before .before .before .before in
+    popped-is-shorter (goes .before .loop .queue) (c .popped .ensures) (omega (arith, goes .loop-test .taken))
 
 same-length : tie.Need-same-length Inv-loop μ-loop
 same-length c = c .before .before .before .before .before .loop .inv .size

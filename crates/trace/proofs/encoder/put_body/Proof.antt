@@ -3,7 +3,7 @@
 use mathlib.Core.Path.{sym}
 use mathlib.Core.List.{append-nil}
 use native.Mathlib.Omega.{arith}
-use Rattle.rules.specs.Trace.{layout, kindOf, fieldsOf, bodyOf}
+use Rattle.rules.specs.Trace.{layout, fieldsOf, bodyOf}
 use Rattle.rules.specs.declared.trace.Record.the-variants.{Node}
 use Rattle.trace.proofs.Laid.{laid-none, body-laid}
 use borrow.Author.Needs.{needs}
@@ -18,42 +18,45 @@ cast-put c = search needs
 
 put-requires : tie.Need-put-requires
 unfolding layout
-put-requires c κs = omega (arith, rw (c .before .before .r .given .1) at (c .before .before .before .before .before .pre))
+put-requires c κs = let told = c .before .before in omega (arith, rw (told .r .given .1) at (told .before .before .before .pre))
 
 cast-put-2 : tie.Need-cast-put-2
 cast-put-2 c = search needs
 
 put-requires-2 : tie.Need-put-requires-2
 unfolding layout
-put-requires-2 c κs = omega (arith, rw (c .before .before .before .before .before .before .r .given .1) at (c .before .before .before .before .before .before .before .before .before .pre))
+put-requires-2 c κs =
+    let first = c .before .before .before in
+    let told = first .before .before .before in
+    omega (arith, rw (told .r .given .1) at (told .before .before .before .pre))
 
 enum-known-r-2 : tie.Need-enum-known-r-2
 enum-known-r-2 c = search needs
 
 put-rates-requires : tie.Need-put-rates-requires
 unfolding layout
-put-rates-requires c κs = omega (arith, rw (c .before .before .r2 .given .1) at (c .before .before .before .before .before .pre))
+put-rates-requires c κs = let told = c .before .before in omega (arith, rw (told .r2 .given .1) at (told .before .before .before .pre))
 
 enum-known-r-3 : tie.Need-enum-known-r-3
 enum-known-r-3 c = search needs
 
 put-requires-3 : tie.Need-put-requires-3
 unfolding layout
-put-requires-3 c κs = omega (arith, rw (c .before .before .r3 .given .1) at (c .before .before .before .before .before .pre))
+put-requires-3 c κs = let told = c .before .before in omega (arith, rw (told .r3 .given .1) at (told .before .before .before .pre))
 
 enum-known-r-4 : tie.Need-enum-known-r-4
 enum-known-r-4 c = search needs
 
 put-bio-requires : tie.Need-put-bio-requires
 unfolding layout
-put-bio-requires c κs = omega (arith, rw (c .before .before .r4 .given .1) at (c .before .before .before .before .before .pre))
+put-bio-requires c κs = let told = c .before .before in omega (arith, rw (told .r4 .given .1) at (told .before .before .before .pre))
 
 enum-known-r-5 : tie.Need-enum-known-r-5
 enum-known-r-5 c = search needs
 
 put-requires-4 : tie.Need-put-requires-4
 unfolding layout
-put-requires-4 c κs = omega (arith, rw (c .before .before .r5 .given .1) at (c .before .before .before .before .before .pre))
+put-requires-4 c κs = let told = c .before .before in omega (arith, rw (told .r5 .given .1) at (told .before .before .before .pre))
 
 enum-told : tie.Need-enum-told
 enum-told c = search needs
@@ -66,7 +69,7 @@ cast-put-3 c = search needs
 
 put-requires-5 : tie.Need-put-requires-5
 unfolding layout
-put-requires-5 c κs = omega (arith, rw (c .before .before .r6 .given .1) at (c .before .before .before .before .before .pre))
+put-requires-5 c κs = let told = c .before .before in omega (arith, rw (told .r6 .given .1) at (told .before .before .before .pre))
 
 same-length : tie.Need-same-length
 same-length c = search needs
@@ -85,28 +88,28 @@ same-length-2 c = search needs
 
 returns-2 : tie.Need-returns-2
 unfolding layout fieldsOf
-returns-2 c = rw (c .before .before .before .before .before .r2 .given .1) (c .before .before .put-rates .ensures)
+returns-2 c = let put = c .before .before in rw (put .before .before .before .r2 .given .1) (put .put-rates .ensures)
 
 same-length-3 : tie.Need-same-length-3
 same-length-3 c = search needs
 
 returns-3 : tie.Need-returns-3
 unfolding layout fieldsOf bodyOf
-returns-3 c = rw (c .before .before .before .before .before .r3 .given .1, append-nil) (c .before .before .put3 .ensures)
+returns-3 c = let put = c .before .before in rw (put .before .before .before .r3 .given .1, append-nil) (put .put3 .ensures)
 
 same-length-4 : tie.Need-same-length-4
 same-length-4 c = search needs
 
 returns-4 : tie.Need-returns-4
 unfolding layout fieldsOf
-returns-4 c = rw (c .before .before .before .before .before .r4 .given .1) (c .before .before .put-bio .ensures)
+returns-4 c = let put = c .before .before in rw (put .before .before .before .r4 .given .1) (put .put-bio .ensures)
 
 same-length-5 : tie.Need-same-length-5
 same-length-5 c = search needs
 
 returns-5 : tie.Need-returns-5
 unfolding layout fieldsOf bodyOf
-returns-5 c = rw (c .before .before .before .before .before .r5 .given .1, append-nil) (c .before .before .put4 .ensures)
+returns-5 c = let put = c .before .before in rw (put .before .before .before .r5 .given .1, append-nil) (put .put4 .ensures)
 
 returns-6 : tie.Need-returns-6
 unfolding layout fieldsOf bodyOf
@@ -117,7 +120,7 @@ same-length-6 c = search needs
 
 returns-7 : tie.Need-returns-7
 unfolding layout fieldsOf bodyOf
-returns-7 c = rw (c .before .before .before .before .before .r6 .given .1, append-nil) (c .before .before .put5 .ensures)
+returns-7 c = let put = c .before .before in rw (put .before .before .before .r6 .given .1, append-nil) (put .put5 .ensures)
 
 pub put-body-spec : {M : Type 1} → statement M
 put-body-spec =
