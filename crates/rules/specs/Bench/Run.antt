@@ -1,4 +1,4 @@
--- A run: calls from a fresh start with answers of every kind, so that what is said of sound states is not said of nothing.
+-- A run: calls from a fresh start with answers of every kind, so that a promise about sound states is no empty one.
 -- Assumes nothing.
 use mathlib.Core.Path.{_≡_, refl}
 use mathlib.Core.List.{List, [], _∷_, _++_}

@@ -104,7 +104,7 @@ module _ (tree : Tree) (rates : Rates) (time : ℕ) (ks : List Call) where
       → c .donors ≡ noNode → c .shares ≡ baseShares (c .tree) (c .active)
   no-donation-restores-base c e = rw e (reached-is-sound ks (start-gives tree rates time) .no-donation)
 
--- ---- and none of this is said of nothing: the bench's run begins with a start and has answers of every kind, refusals 4 to 15
+-- ---- these promises are not empty: the bench's run begins with a start and has answers of every kind, refusals 4 to 15
 -- among them (`run-answers`, `run-reaches` and `limit-answers` in Bench/Run), and each of its states is sound
 left-is-sound : (ms : List Move) {c : Controller} → Sound c → Sound (left ms c)
 left-is-sound [] sound = sound

@@ -1,5 +1,6 @@
 -- `trace::reader::moved` meets its contract: a walk of its MIR, by hand. A struct is made anew of the slice that the one passed holds, and another number.
--- The struct is Copy: what it owns is had twice, one copy is kept whole for the exit, and the other, with the facts of the number in the place of at's, is what the result owns.
+-- The struct is Copy, so what it owns may be used twice. One copy stays whole for the exit; the other becomes the result's, with
+-- the facts of the new place instead of those of the old.
 -- Assumes nothing.
 use mathlib.Core.Path.{refl}
 use Prim.Native.Nat.{ℕ, _<_, _^_}

@@ -1,5 +1,6 @@
 -- `trace::reader::new` meets its contract: a walk of its MIR, by hand. A `Reader` is made of the slice passed and 0, in the result's local.
--- A `&[u8]` is Copy, so what it owns is had twice: once for the trace at exit, and once inside the result, beside the facts of at.
+-- A `&[u8]` is Copy, so what it owns may be used twice: once for the trace at exit, and once inside the result, beside the
+-- facts of its place.
 -- Assumes nothing.
 use mathlib.Core.Path.{refl}
 use Prim.Native.Nat.{ℕ}

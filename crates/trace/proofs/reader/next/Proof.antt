@@ -1,5 +1,6 @@
 -- `trace::reader::next` meets its contract: a walk of its MIR, by hand. The struct is taken apart, and `read_at` is called on the slice and the number. All that the proof knows of `read_at` is that it meets its contract.
--- The struct is Copy: what it owns is had twice, one copy is kept whole for the exit, and of the other what the trace owns goes to the callee, beside the lifetime's token, which comes back.
+-- The struct is Copy, so what it owns may be used twice. One copy stays whole for the exit; of the other, the trace's part goes
+-- to the callee with the lifetime's token, which comes back.
 -- Assumes nothing.
 use mathlib.Core.Path.{_≡_, refl}
 use Prim.Native.Nat.{_<_, _^_}
