@@ -3,48 +3,28 @@
 
 #[macro_use]
 mod named_list;
-mod against;
-mod aim;
-mod cases;
-mod census;
-mod compare;
-mod controller;
-mod cost;
-mod damage;
-mod events;
-mod expose;
-mod generate;
-mod leaf;
-mod ledger;
-mod moves;
-mod moves_of_debt;
-mod moves_of_donation;
-mod moves_of_load;
-mod numbers;
-mod observe;
-mod pair;
-mod random;
-mod refusal;
-mod replay;
-mod robust;
-mod rules;
+mod comparison;
+mod engine;
+mod generator;
+mod observation;
 mod selftest;
-mod setup;
-mod tally;
 mod text;
 mod trace;
-mod tree;
-mod watch;
 
 use std::env;
 use std::fs::File;
 use std::io::{self, BufRead, BufReader, BufWriter, Read, Write};
 use std::process::ExitCode;
 
-use census::Census;
-use generate::Style;
-use rules::{Mutant, Rules};
-use tally::Tally;
+use comparison::tally::Tally;
+use comparison::{against, cases, compare, expose, robust};
+use engine::rules::{Mutant, Rules};
+use generator::generate::generate;
+use generator::style::Style;
+use observation::census::Census;
+use text::assemble::assemble;
+use text::list::list;
+use trace::replay::replay;
 
 const USAGE: &str = "usage: second COMMAND
   replay [FILE]                 replay a trace
@@ -203,7 +183,7 @@ fn output() -> BufWriter<io::StdoutLock<'static>> {
 }
 
 fn replay_from(file: Option<&str>, rules: Rules) -> Done {
-    replay::replay(input(file)?, &mut output(), rules).map_err(said)?;
+    replay(input(file)?, &mut output(), rules).map_err(said)?;
     Ok(true)
 }
 
@@ -236,7 +216,7 @@ fn generate_trace(seed: &str, records: Option<&str>, style: Option<&str>) -> Don
         None => style.usual_records(),
         Some(word) => number(word)?,
     };
-    generate::generate(seed, records, style, &mut output()).map_err(said)?;
+    generate(seed, records, style, &mut output()).map_err(said)?;
     Ok(true)
 }
 
@@ -286,14 +266,14 @@ fn compare_outputs(ours: &str, theirs: &str, trace: &str) -> Done {
 }
 
 fn list_text(file: Option<&str>) -> Done {
-    text::list(input(file)?, &mut output()).map_err(said)?;
+    list(input(file)?, &mut output()).map_err(said)?;
     Ok(true)
 }
 
 fn make_bytes(file: Option<&str>) -> Done {
     let lines = BufReader::new(input(file)?);
     let name = file.unwrap_or("standard input");
-    let trace = text::assemble(lines).map_err(|fault| format!("{}: {}", name, fault))?;
+    let trace = assemble(lines).map_err(|fault| format!("{}: {}", name, fault))?;
     io::stdout().write_all(&trace).map_err(said)?;
     Ok(true)
 }

@@ -4,19 +4,22 @@
 use std::fmt::Debug;
 use std::io::{self, Write};
 
-use crate::controller::{Answer, Controller, MAX_ELAPSED, MAX_PERIOD, MAX_VIRTUAL_TIME};
-use crate::cost::{Bio, Model, Rates, Side, FORCED, WRITE};
-use crate::generate::{generate, Style};
-use crate::leaf::relative_cost;
-use crate::ledger::audit;
-use crate::numbers::{members, Absolute, Relative};
-use crate::refusal::Refusal;
-use crate::replay::replay;
-use crate::rules::{Mutant, Rules};
-use crate::setup::{BENCH, LINUX, PAPER};
-use crate::text::{assemble, list};
-use crate::trace::{decode, encode, Reader, Record, LONGEST};
-use crate::tree::Tree;
+use crate::engine::controller::{Answer, Controller, MAX_ELAPSED, MAX_PERIOD, MAX_VIRTUAL_TIME};
+use crate::engine::cost::{Bio, Model, Rates, Side, FORCED, WRITE};
+use crate::engine::leaf::relative_cost;
+use crate::engine::numbers::{members, Absolute, Relative};
+use crate::engine::refusal::Refusal;
+use crate::engine::rules::{Mutant, Rules};
+use crate::engine::tree::Tree;
+use crate::generator::generate::generate;
+use crate::generator::setup::{BENCH, LINUX, PAPER};
+use crate::generator::style::Style;
+use crate::observation::ledger::audit;
+use crate::text::assemble::assemble;
+use crate::text::list::list;
+use crate::trace::record::{decode, encode, Record, LONGEST};
+use crate::trace::replay::replay;
+use crate::trace::stream::Reader;
 
 /// Counts what held and keeps a line for what did not.
 struct Checks {

@@ -1,0 +1,11 @@
+//! The comparison with another program, and what it is made of.
+
+pub mod against;
+pub mod cases;
+pub mod compare;
+pub mod expose;
+mod pair;
+pub mod robust;
+mod samples;
+pub mod tally;
+mod watch;

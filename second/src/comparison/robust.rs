@@ -1,0 +1,229 @@
+//! Damaged traces of every length, on which both programs must agree, end
+//! soon and stay within a fixed memory.
+
+use std::io;
+use std::sync::Mutex;
+use std::time::Duration;
+
+use crate::comparison::pair::{on_all_cores, Pair};
+use crate::comparison::tally::Tally;
+use crate::comparison::watch::{Feed, Program, Watch};
+use crate::generator::damage::{repeat_behind_setup, scatter};
+use crate::generator::generate::generate;
+use crate::generator::random::Random;
+use crate::generator::style::Style;
+
+/// A program that takes longer than this for the longest trace hangs.
+const PATIENCE: Duration = Duration::from_secs(300);
+
+/// How many bytes the longest traces have.
+const LONGEST: u64 = 10_000_000;
+
+/// A trace may take so many KiB more than an empty one. The longest is longer
+/// than that, so that a program which holds all of it is found out.
+const MORE_MEMORY: u64 = 8 * 1024;
+
+/// How a trace is damaged, and its length.
+#[derive(Clone, Copy, Debug)]
+enum Damage {
+    /// A small good trace, cut at a place.
+    Cut(usize),
+    /// A small good trace with one byte changed.
+    Changed(usize, u8),
+    /// A generated trace, cut at a length.
+    LongCut(u64),
+    /// The same with a byte changed in its last part.
+    LongChanged(u64),
+    /// The same with some bytes changed anywhere.
+    LongScattered(u64),
+    /// A good setup with noise behind it, or nothing but noise.
+    LongNoise(u64),
+    /// A good setup with one byte value over and over behind it.
+    LongRepeat(u64),
+}
+
+impl Damage {
+    fn is_long(self) -> bool {
+        !matches!(self, Damage::Cut(_) | Damage::Changed(..))
+    }
+
+    /// The damaged trace; `small` is the good one to damage.
+    fn trace(self, small: &[u8], seed: u64) -> io::Result<Vec<u8>> {
+        let mut random = Random::new(seed);
+        match self {
+            Damage::Cut(place) => Ok(small[..place].to_vec()),
+            Damage::Changed(place, byte) => {
+                let mut trace = small.to_vec();
+                trace[place] = byte;
+                Ok(trace)
+            }
+            Damage::LongCut(length) => long_trace(length, seed),
+            Damage::LongChanged(length) => {
+                let mut trace = long_trace(length, seed)?;
+                let place = trace.len() - 1 - random.below(length / 10) as usize;
+                trace[place] = random.number() as u8;
+                Ok(trace)
+            }
+            Damage::LongScattered(length) => {
+                let mut trace = long_trace(length, seed)?;
+                scatter(&mut trace, &mut random);
+                Ok(trace)
+            }
+            Damage::LongNoise(length) => {
+                let mut trace = Vec::new();
+                generate(seed, length, Style::Noise, &mut trace)?;
+                Ok(trace)
+            }
+            Damage::LongRepeat(length) => {
+                let mut trace = long_trace(length, seed)?;
+                repeat_behind_setup(&mut trace, &mut random);
+                Ok(trace)
+            }
+        }
+    }
+}
+
+/// A generated trace of so many bytes, most likely cut inside a record.
+fn long_trace(length: u64, seed: u64) -> io::Result<Vec<u8>> {
+    let mut trace = Vec::new();
+    // A record takes 7 bytes at the very least on the average.
+    generate(seed, length / 7, Style::Long, &mut trace)?;
+    trace.truncate(length as usize);
+    Ok(trace)
+}
+
+/// A cut at each byte, three changes of each byte, and long traces.
+fn all_damage(small: &[u8], random: &mut Random) -> Vec<Damage> {
+    let mut all = vec![
+        Damage::LongCut(LONGEST),
+        Damage::LongChanged(LONGEST),
+        Damage::LongScattered(LONGEST),
+        Damage::LongNoise(LONGEST),
+    ];
+    for _ in 0..6 {
+        all.push(Damage::LongCut(random.spread(10_000, 1_000_000)));
+        all.push(Damage::LongChanged(random.spread(10_000, 1_000_000)));
+        all.push(Damage::LongScattered(random.spread(10_000, 3_000_000)));
+        all.push(Damage::LongNoise(random.spread(10_000, LONGEST)));
+        all.push(Damage::LongRepeat(random.spread(10_000, 300_000)));
+    }
+    for place in 0..=small.len() {
+        all.push(Damage::Cut(place));
+    }
+    for (place, &byte) in small.iter().enumerate() {
+        all.push(Damage::Changed(place, byte ^ 1 << random.below(8)));
+        all.push(Damage::Changed(place, random.below(9) as u8));
+        all.push(Damage::Changed(place, random.number() as u8));
+    }
+    all
+}
+
+/// Tries all damage. The answer is whether nothing failed.
+pub fn run(ours: &str, seed: u64, mut tally: Tally) -> io::Result<bool> {
+    let pair = Pair::of(ours)?;
+    let held = match hold_memory(&pair)? {
+        Ok(held) => held,
+        Err(reason) => {
+            tally.fail(&reason);
+            return Ok(tally.close());
+        }
+    };
+    let mut small = Vec::new();
+    generate(seed, 20, Style::Valid, &mut small)?;
+    let all = all_damage(&small, &mut Random::new(seed));
+    let tally = Mutex::new(tally);
+    on_all_cores(all.len(), PATIENCE, |watch, number| {
+        let damage = all[number];
+        let trace = damage.trace(&small, seed.wrapping_add(number as u64))?;
+        let programs = if damage.is_long() { &held } else { &pair };
+        let failure = programs.run(watch, &trace, feed_of(number, &trace))?;
+        let mut tally = tally.lock().unwrap();
+        tally.show_progress(number, all.len());
+        match failure {
+            None => tally.pass(),
+            Some(failure) => {
+                let name = format!("{:?}", damage);
+                let title = format!("{} of seed {}", name, seed);
+                failure.count(&title, &name, &trace, &mut tally)?
+            }
+        }
+        Ok(())
+    })?;
+    let tally = tally.into_inner().unwrap();
+    tally.clear_progress();
+    let long = all.iter().filter(|damage| damage.is_long()).count();
+    println!(
+        "{} damaged traces: {} of up to {} bytes, the others of {} or less",
+        all.len(),
+        long,
+        LONGEST,
+        small.len()
+    );
+    Ok(tally.close())
+}
+
+/// The ways to hand a trace over take turns; small pieces take long, so they
+/// are not for the longest traces.
+fn feed_of(number: usize, trace: &[u8]) -> Feed {
+    match number % 3 {
+        0 => Feed::Named,
+        1 if trace.len() < 1_000_000 => Feed::Pieces,
+        _ => Feed::Input,
+    }
+}
+
+/// Both programs held to the memory that each needs for an empty trace, and
+/// a fixed amount more; or why that cannot be done.
+fn hold_memory(pair: &Pair) -> io::Result<Result<Pair, String>> {
+    let found = Mutex::new((None, None));
+    on_all_cores(1, PATIENCE, |watch, _| {
+        let ours = least_memory(&pair.ours, watch)?;
+        let second = least_memory(&pair.second, watch)?;
+        *found.lock().unwrap() = (ours, second);
+        Ok(())
+    })?;
+    let found = found.into_inner().unwrap();
+    let (ours, second) = match found {
+        (Some(ours), Some(second)) => (ours + MORE_MEMORY, second + MORE_MEMORY),
+        _ => {
+            let reason = "a program does not take an empty trace in any memory (ulimit -v)";
+            return Ok(Err(reason.to_string()));
+        }
+    };
+    println!(
+        "memory: our program is held to {} KiB, the second to {}: \
+         {} more than each needs for an empty trace",
+        ours, second, MORE_MEMORY
+    );
+    Ok(Ok(Pair {
+        ours: pair.ours.within(ours),
+        second: pair.second.within(second),
+    }))
+}
+
+/// The least memory in KiB, to a quarter MiB, in which a program takes an
+/// empty trace.
+fn least_memory(program: &Program, watch: &Watch) -> io::Result<Option<u64>> {
+    let empty = watch.put(&[])?;
+    let takes = |memory: u64| -> io::Result<bool> {
+        let ran = watch.run(&program.within(memory), &empty, Feed::Named)?;
+        Ok(ran.fault.is_none())
+    };
+    let mut enough = 1_024;
+    while !takes(enough)? {
+        enough *= 2;
+        if enough > 1 << 32 {
+            return Ok(None);
+        }
+    }
+    let mut short = 0;
+    while enough - short > 256 {
+        let middle = (enough + short) / 2;
+        if takes(middle)? {
+            enough = middle;
+        } else {
+            short = middle;
+        }
+    }
+    Ok(Some(enough))
+}

@@ -1,0 +1,9 @@
+//! The rules of document 01 on numbers and nodes. Nothing here knows of traces.
+
+pub mod controller;
+pub mod cost;
+pub mod leaf;
+pub mod numbers;
+pub mod refusal;
+pub mod rules;
+pub mod tree;

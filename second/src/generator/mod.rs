@@ -1,0 +1,10 @@
+//! The generator of traces. The moves use its state, and `generate` the moves.
+
+mod aim;
+pub mod damage;
+pub mod generate;
+mod moves;
+pub mod random;
+pub mod setup;
+mod state;
+pub mod style;

@@ -1,0 +1,6 @@
+//! The moves of generated traces, by their aim.
+
+pub mod debt;
+pub mod donation;
+pub mod load;
+pub mod usual;

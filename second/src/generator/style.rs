@@ -1,0 +1,38 @@
+//! The styles of generated traces.
+
+named_list! {
+    Style {
+        Short = "short",
+        Long = "long",
+        Valid = "valid",
+        Damaged = "damaged",
+        Edges = "edges",
+        Deep = "deep",
+        Few = "few",
+        Idle = "idle",
+        Full = "full",
+        Noise = "noise",
+    }
+}
+
+impl Style {
+    pub fn named(name: &str) -> Option<Style> {
+        Style::ALL
+            .iter()
+            .copied()
+            .find(|style| style.name() == name)
+    }
+
+    /// How many records follow the start if nothing else is asked for; how
+    /// many bytes there are in all for `noise`.
+    pub fn usual_records(self) -> u64 {
+        match self {
+            Style::Short => 40,
+            Style::Long | Style::Deep | Style::Few | Style::Idle | Style::Full => 3_000,
+            Style::Valid => 500,
+            Style::Damaged => 120,
+            Style::Edges => 700,
+            Style::Noise => 300,
+        }
+    }
+}

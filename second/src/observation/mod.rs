@@ -1,0 +1,7 @@
+//! What is seen of a replay: the events that it reaches, their counts, and the
+//! sums of demand 3.
+
+pub mod census;
+pub mod events;
+pub mod ledger;
+pub mod observe;

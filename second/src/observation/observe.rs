@@ -1,0 +1,448 @@
+//! Which events one record brings about, seen from the states before and
+//! after it. The replay itself is not touched by being observed.
+
+use crate::engine::controller::{Answer, Controller, MAX_DEBT, MAX_ELAPSED, MAX_PERIOD, MAX_VRATE};
+use crate::engine::cost::{
+    is_sequential, Bio, Model, Rates, FORCED, MAX_BPS, MAX_BYTES, MAX_COST, MAX_IOPS, MAX_SECTOR,
+    MIN_BPS, NEAR_SECTORS, WRITE,
+};
+use crate::engine::leaf::{relative_cost, Leaf, IDLE_CAP, QUEUE_ROOM};
+use crate::engine::numbers::{floor, is_member, members, Absolute, Relative};
+use crate::engine::refusal::Refusal;
+use crate::engine::rules::Rules;
+use crate::engine::tree::{Tree, MAX_LEVEL, MAX_NODES, MAX_WEIGHT, SHARE_FLOOR};
+use crate::observation::events::Event;
+use crate::trace::record::Record;
+use crate::trace::replay::{Outcome, Phase};
+
+/// Where the events of a record go.
+struct Sink<'a> {
+    hit: &'a mut dyn FnMut(Event),
+}
+
+impl<'a> Sink<'a> {
+    fn when(&mut self, holds: bool, event: Event) {
+        if holds {
+            (self.hit)(event);
+        }
+    }
+
+    /// Counts a fault that is the only one, so that nothing else can have
+    /// brought about the refusal.
+    fn only_one(&mut self, faults: &[(bool, Event)]) {
+        let mut held = faults.iter().filter(|(holds, _)| *holds);
+        if let (Some((_, event)), None) = (held.next(), held.next()) {
+            (self.hit)(*event);
+        }
+    }
+}
+
+/// Tells `hit` each event of a record.
+pub fn observe(
+    before: &Phase,
+    record: &Record,
+    outcome: Outcome,
+    after: &Phase,
+    hit: &mut dyn FnMut(Event),
+) {
+    let mut sink = Sink { hit };
+    match (before, after) {
+        (Phase::Setup { tree, model }, _) => {
+            observe_setup(tree, model.is_some(), record, outcome, &mut sink)
+        }
+        (Phase::Running(before), Phase::Running(after)) => {
+            observe_run(before, record, outcome, after, &mut sink)
+        }
+        // A started replay never goes back to setup.
+        (Phase::Running(_), Phase::Setup { .. }) => {}
+    }
+}
+
+fn observe_setup(tree: &Tree, model: bool, record: &Record, outcome: Outcome, sink: &mut Sink) {
+    let refused = outcome != Outcome::Quiet;
+    match *record {
+        Record::Node { parent, weight } if refused => {
+            observe_bad_node(tree, usize::from(parent), weight, sink)
+        }
+        Record::Node { parent, weight } => {
+            sink.when(model, Event::NodeAfterModel);
+            let level = tree.level(usize::from(parent)) + 1;
+            sink.when(level == MAX_LEVEL, Event::Level8);
+            sink.when(weight == 1, Event::Weight1);
+            sink.when(weight == MAX_WEIGHT, Event::Weight10000);
+            sink.when(tree.count() + 1 == MAX_NODES, Event::NodeRecords63);
+        }
+        Record::Model(_) if model => sink.when(true, Event::SecondModel),
+        Record::Model(rates) => observe_rates(&rates, refused, sink),
+        Record::Start { .. } => observe_start(tree, outcome, sink),
+        _ => sink.when(true, Event::RunRecordInSetup),
+    }
+}
+
+fn observe_bad_node(tree: &Tree, parent: usize, weight: u16, sink: &mut Sink) {
+    let full = tree.count() == MAX_NODES;
+    let deep = parent < tree.count() && tree.level(parent) == MAX_LEVEL;
+    sink.only_one(&[
+        (full, Event::NodeRecords64),
+        (parent == tree.count(), Event::ParentItself),
+        (parent > tree.count(), Event::ParentAbsent),
+        (weight == 0, Event::Weight0),
+        (weight == MAX_WEIGHT + 1, Event::Weight10001),
+        (deep, Event::Level9),
+    ]);
+}
+
+fn observe_rates(rates: &Rates, refused: bool, sink: &mut Sink) {
+    let any_bps = |bps: u64| rates.rbps == bps || rates.wbps == bps;
+    let any_iops = |iops: u64| {
+        [
+            rates.rseqiops,
+            rates.rrandiops,
+            rates.wseqiops,
+            rates.wrandiops,
+        ]
+        .contains(&iops)
+    };
+    if refused {
+        sink.only_one(&[
+            (any_bps(MIN_BPS - 1), Event::Bps4095),
+            (any_bps(MAX_BPS + 1), Event::BpsTooLarge),
+            (any_iops(0), Event::Iops0),
+            (any_iops(MAX_IOPS + 1), Event::IopsTooLarge),
+        ]);
+        return;
+    }
+    sink.when(any_bps(MIN_BPS), Event::Bps4096);
+    sink.when(any_bps(MAX_BPS), Event::BpsMost);
+    sink.when(any_iops(1), Event::Iops1);
+    sink.when(any_iops(MAX_IOPS), Event::IopsMost);
+    if let Ok(model) = Model::new(rates, Rules::TRUE) {
+        let no_base = model.read.random_base == 0 || model.write.random_base == 0;
+        sink.when(no_base, Event::BaseZero);
+    }
+}
+
+fn observe_start(tree: &Tree, outcome: Outcome, sink: &mut Sink) {
+    match outcome {
+        Outcome::Refused(Refusal::WrongPhase) => sink.when(true, Event::StartWithoutModel),
+        Outcome::Refused(Refusal::Tree) => sink.when(true, Event::NoNode),
+        Outcome::Refused(_) => {
+            sink.when(true, Event::ThinTree);
+            let smallest = tree.smallest_share(Rules::TRUE);
+            sink.when(smallest == SHARE_FLOOR - 1, Event::Share1023);
+        }
+        _ => {
+            let smallest = tree.smallest_share(Rules::TRUE);
+            sink.when(smallest == SHARE_FLOOR, Event::Share1024);
+            sink.when(tree.leaves().count_ones() == 1, Event::OneLeaf);
+        }
+    }
+}
+
+fn observe_run(
+    before: &Controller,
+    record: &Record,
+    outcome: Outcome,
+    after: &Controller,
+    sink: &mut Sink,
+) {
+    match (record, outcome) {
+        (Record::Bio(bio), Outcome::Refused(refusal)) => {
+            observe_refused_bio(before, bio, refusal, sink)
+        }
+        (Record::Bio(bio), Outcome::Answered(answer, _)) => {
+            let number = usize::from(bio.node);
+            observe_cost(before, number, bio, sink);
+            observe_budget(before, number, bio, answer, sink);
+            let leaf = &after.leaves[number];
+            let filled = answer == Answer::Waits && leaf.queue.len() == QUEUE_ROOM;
+            sink.when(filled, Event::QueueFilled);
+            let most = answer == Answer::OnDebt && leaf.debt == MAX_DEBT;
+            sink.when(most, Event::DebtMost);
+            observe_shares(before, number, answer, after, sink);
+        }
+        (Record::Tick { time }, Outcome::Refused(refusal)) => {
+            observe_refused_tick(before, *time, refusal, sink)
+        }
+        (Record::Tick { time }, _) => observe_tick(before, *time, after, sink),
+        (Record::Plan, Outcome::Refused(_)) => sink.when(true, Event::PeriodEmpty),
+        (Record::Plan, _) => {
+            observe_plan(before, after, sink);
+            observe_donation(before, after, sink);
+        }
+        (Record::Vrate { vrate }, _) => {
+            sink.when(*vrate == 0, Event::Vrate0);
+            sink.when(*vrate == 1, Event::Vrate1);
+            sink.when(*vrate == MAX_VRATE, Event::Vrate400);
+            sink.when(*vrate == MAX_VRATE + 1, Event::Vrate401);
+        }
+        _ => sink.when(true, Event::SetupRecordAfterStart),
+    }
+}
+
+fn observe_refused_bio(before: &Controller, bio: &Bio, refusal: Refusal, sink: &mut Sink) {
+    let number = usize::from(bio.node);
+    if refusal == Refusal::NoLeaf {
+        let absent = number >= before.tree.count();
+        sink.when(number == 0, Event::BioOnRoot);
+        sink.when(number != 0 && !absent, Event::BioOnInnerNode);
+        sink.when(absent, Event::BioOnAbsentNode);
+        sink.when(number == 255, Event::BioOnNode255);
+        sink.when(bio.check(Rules::TRUE).is_err(), Event::NoLeafAndBadBio);
+        return;
+    }
+    let leaf = &before.leaves[number];
+    let full = !bio.is_forced() && leaf.queue.len() == QUEUE_ROOM;
+    match refusal {
+        Refusal::BioRange => {
+            observe_bad_bio(bio, sink);
+            sink.when(full, Event::BadBioAndQueueFull);
+        }
+        Refusal::CostLimit => {
+            sink.when(true, Event::CostTooLarge);
+            sink.when(full, Event::DearBioAndQueueFull);
+        }
+        Refusal::QueueFull => sink.when(true, Event::QueueFull),
+        _ => sink.when(true, Event::DebtTooLarge),
+    }
+    let far = leaf.end.is_some() && !is_sequential(leaf.end, bio.end(), Rules::TRUE);
+    sink.when(far, Event::EndOfRefusedIgnored);
+}
+
+fn observe_bad_bio(bio: &Bio, sink: &mut Sink) {
+    sink.only_one(&[
+        (bio.bytes == 0, Event::BytesZero),
+        (bio.bytes % 512 != 0, Event::BytesUneven),
+        (bio.bytes > MAX_BYTES, Event::BytesTooMany),
+        (bio.sector == MAX_SECTOR + 1, Event::SectorTooLarge),
+        (bio.flags & !(WRITE | FORCED) != 0, Event::BadFlags),
+    ]);
+}
+
+/// Events of an accepted bio's place, size and id.
+fn observe_cost(before: &Controller, number: usize, bio: &Bio, sink: &mut Sink) {
+    let leaf = &before.leaves[number];
+    sink.when(bio.bytes == 512, Event::BytesLeast);
+    sink.when(bio.bytes == MAX_BYTES, Event::BytesMost);
+    sink.when(bio.sector == MAX_SECTOR, Event::SectorMost);
+    let cost = before.cost_of(number, bio);
+    sink.when(cost == MAX_COST, Event::CostMost);
+    sink.when(bio.id == u32::MAX, Event::IdMost);
+    let repeated = members(before.active)
+        .any(|other| before.leaves[other].queue.iter().any(|w| w.id == bio.id));
+    sink.when(repeated, Event::IdWaitsAlready);
+    // Being sequential only shows where it changes the cost.
+    let by_place = |sequential| {
+        before
+            .model
+            .cost(bio.is_write(), sequential, bio.bytes, Rules::TRUE)
+    };
+    if by_place(true) == by_place(false) {
+        return;
+    }
+    match leaf.end {
+        None => sink.when(true, Event::FirstBio),
+        Some(end) => {
+            let ahead = bio.sector.checked_sub(end);
+            let behind = end.checked_sub(bio.sector);
+            sink.when(ahead == Some(NEAR_SECTORS), Event::NearAhead);
+            sink.when(behind == Some(NEAR_SECTORS), Event::NearBehind);
+            sink.when(ahead == Some(NEAR_SECTORS + 1), Event::FarAhead);
+            sink.when(behind == Some(NEAR_SECTORS + 1), Event::FarBehind);
+            let woken = !is_member(before.active, number) && cost == by_place(true);
+            sink.when(woken, Event::SequentialAfterInactive);
+        }
+    }
+}
+
+/// Events of an accepted bio against budget, debt and waiters.
+fn observe_budget(before: &Controller, number: usize, bio: &Bio, answer: Answer, sink: &mut Sink) {
+    let leaf = &before.leaves[number];
+    if !is_member(before.active, number) {
+        return;
+    }
+    let relative = relative_cost(before.cost_of(number, bio), leaf.share, Rules::TRUE);
+    let fits = relative <= leaf.budget;
+    let exact = relative == leaf.budget;
+    let one_short = relative == Relative(leaf.budget.0 + 1);
+    let waiters = !leaf.queue.is_empty();
+    if bio.is_forced() {
+        sink.when(!leaf.owes() && exact, Event::ForcedExact);
+        sink.when(!leaf.owes() && one_short, Event::ForcedOneShort);
+        let passes = waiters && answer == Answer::Issued;
+        sink.when(passes, Event::ForcedPastWaiters);
+        let joins = waiters && answer == Answer::OnDebt;
+        sink.when(joins, Event::ForcedOnDebtWithWaiters);
+        sink.when(leaf.owes() && fits, Event::ForcedOnOldDebt);
+    } else {
+        sink.when(leaf.is_clear() && exact, Event::UnforcedExact);
+        sink.when(leaf.is_clear() && one_short, Event::UnforcedOneShort);
+        sink.when(waiters && !leaf.owes() && fits, Event::FitsBehindWaiter);
+        sink.when(!waiters && leaf.owes() && fits, Event::FitsBehindDebt);
+    }
+}
+
+/// Events of shares changed by an accepted bio.
+fn observe_shares(
+    before: &Controller,
+    number: usize,
+    answer: Answer,
+    after: &Controller,
+    sink: &mut Sink,
+) {
+    let activation = !is_member(before.active, number);
+    sink.when(activation, Event::Activation);
+    let again = activation && before.leaves[number].end.is_some();
+    sink.when(again, Event::Reactivation);
+    let donor_issues = is_member(before.donors, number) && answer == Answer::Issued;
+    sink.when(donor_issues, Event::DonorIssues);
+    if before.donors != 0 && after.donors == 0 {
+        let by_bio = |given| !activation && answer == given;
+        sink.when(activation, Event::DonationEndedByActivation);
+        sink.when(by_bio(Answer::Waits), Event::DonationEndedByWait);
+        sink.when(by_bio(Answer::OnDebt), Event::DonationEndedByDebt);
+    }
+    for other in members(before.active) {
+        let (old, new) = (&before.leaves[other], &after.leaves[other]);
+        let stays = new.share < old.share && old.budget > Relative(0) && new.budget == old.budget;
+        sink.when(stays, Event::ShareFallsBudgetStays);
+        let scaled = is_scaled(old, new);
+        sink.when(scaled, Event::DonorBudgetScaled);
+        sink.when(activation && scaled, Event::ActivationRaisesShare);
+    }
+}
+
+/// Whether a share rose and took budget with it.
+fn is_scaled(old: &Leaf, new: &Leaf) -> bool {
+    new.share > old.share && new.budget < old.budget
+}
+
+fn observe_refused_tick(before: &Controller, time: u64, refusal: Refusal, sink: &mut Sink) {
+    if refusal == Refusal::TimeBack {
+        sink.when(true, Event::TimeBack);
+        return;
+    }
+    let elapsed = time - before.time;
+    let period = before.period + floor(elapsed, u64::from(before.vrate), 100);
+    if refusal == Refusal::TimeJump {
+        sink.when(elapsed == MAX_ELAPSED + 1, Event::ElapsedTooLong);
+        sink.when(period > MAX_PERIOD, Event::JumpAndPeriodLimit);
+    } else {
+        sink.when(period == MAX_PERIOD + 1, Event::PeriodTooLong);
+    }
+}
+
+fn observe_tick(before: &Controller, time: u64, after: &Controller, sink: &mut Sink) {
+    let elapsed = time - before.time;
+    sink.when(elapsed == 0, Event::TickOfZero);
+    sink.when(elapsed == MAX_ELAPSED, Event::ElapsedMost);
+    sink.when(after.period == MAX_PERIOD, Event::PeriodMost);
+    let rounded = elapsed * u64::from(before.vrate) % 100 != 0;
+    sink.when(rounded, Event::GrowthRounded);
+    let growth = after.virtual_time - before.virtual_time;
+    let mut releasing = 0;
+    for number in members(after.active) {
+        let (old, new) = (&before.leaves[number], &after.leaves[number]);
+        observe_repayment(old, new, sink);
+        observe_release(old, new, sink);
+        observe_cap(old, growth, new, sink);
+        releasing += usize::from(new.queue.len() < old.queue.len());
+    }
+    sink.when(releasing > 1, Event::ReleaseOfSeveralLeaves);
+}
+
+fn observe_repayment(old: &Leaf, new: &Leaf, sink: &mut Sink) {
+    if !old.owes() {
+        return;
+    }
+    let partial = new.owes() && new.debt < old.debt;
+    sink.when(partial, Event::PartialRepayment);
+    sink.when(!new.owes(), Event::FullRepayment);
+    let both = new.queue.len() < old.queue.len();
+    sink.when(both, Event::RepaymentThenRelease);
+    let held = new.owes() && !new.queue.is_empty();
+    sink.when(held, Event::OwingLeafHoldsWaiters);
+}
+
+fn observe_release(old: &Leaf, new: &Leaf, sink: &mut Sink) {
+    let released = old.queue.len() - new.queue.len();
+    let spent = released > 0 && new.budget == Relative(0);
+    sink.when(spent, Event::ReleaseExact);
+    sink.when(released > 1, Event::ReleaseSeveral);
+    if let (false, Some(oldest)) = (new.owes(), new.queue.oldest()) {
+        sink.when(released > 0, Event::ReleaseStops);
+        let relative = relative_cost(oldest.cost, new.share, Rules::TRUE);
+        let one_short = relative == Relative(new.budget.0 + 1);
+        sink.when(one_short, Event::ReleaseOneShort);
+        let cheaper = new.queue.iter().any(|bio| new.fits(bio.cost, Rules::TRUE));
+        sink.when(cheaper, Event::ReleaseHoldsCheaper);
+    }
+}
+
+fn observe_cap(old: &Leaf, growth: u64, new: &Leaf, sink: &mut Sink) {
+    if old.is_clear() {
+        let saved = Relative(old.budget.0 + growth);
+        sink.when(saved == IDLE_CAP && growth > 0, Event::CapExact);
+        sink.when(saved > IDLE_CAP, Event::CapAbove);
+    }
+    let waits = !new.owes() && !new.queue.is_empty();
+    sink.when(waits && new.budget > IDLE_CAP, Event::CapNotWhileWaiting);
+}
+
+fn observe_plan(before: &Controller, after: &Controller, sink: &mut Sink) {
+    sink.when(before.active == 0, Event::PlanWithoutLeaf);
+    let twice = 2 * before.usage().0;
+    for number in members(before.active) {
+        let (old, new) = (&before.leaves[number], &after.leaves[number]);
+        let forgiven = new.debt < old.debt;
+        sink.when(forgiven, Event::Forgiveness);
+        sink.when(forgiven && old.debt.0 % 2 == 1, Event::ForgivenessOdd);
+        let one = old.debt == Absolute(1) && twice < before.period;
+        sink.when(one, Event::DebtOfOne);
+        let kept = old.debt > Absolute(1) && !forgiven;
+        sink.when(kept, Event::NoForgiveness);
+        sink.when(kept && twice == before.period, Event::HalfUsed);
+        let retired = !is_member(after.active, number);
+        sink.when(retired, Event::Inactivation);
+        sink.when(
+            retired && old.budget > Relative(0),
+            Event::InactivationOfBudget,
+        );
+        if !old.accepted {
+            let by_waiter = !old.owes() && !old.queue.is_empty();
+            sink.when(by_waiter, Event::KeptByWaiter);
+            sink.when(old.owes() && old.queue.is_empty(), Event::KeptByDebt);
+        }
+        sink.when(old.usage.0 > before.period, Event::UsageAbovePeriod);
+        sink.when(!retired && is_scaled(old, new), Event::PlanScalesBudget);
+    }
+}
+
+fn observe_donation(before: &Controller, after: &Controller, sink: &mut Sink) {
+    let donates = after.donors != 0;
+    if before.donors != 0 {
+        sink.when(!donates, Event::DonationEndedByPlan);
+        sink.when(donates, Event::DonationRenewed);
+    }
+    let base = after.tree.base_shares(after.active, Rules::TRUE);
+    if !donates {
+        let all = members(after.active).all(|number| {
+            let leaf = &before.leaves[number];
+            leaf.is_clear() && before.target(leaf) < base[number]
+        });
+        sink.when(after.active != 0 && all, Event::OnlyDonors);
+        return;
+    }
+    sink.when(true, Event::Donation);
+    let others = after.active & !after.donors;
+    let several = after.donors.count_ones() > 1 && others.count_ones() > 1;
+    sink.when(several, Event::DonationOfSeveral);
+    let pool: u64 = members(others).map(|n| after.leaves[n].share).sum();
+    let base_of_others: u64 = members(others).map(|n| base[n]).sum();
+    let lowest = others.trailing_zeros() as usize;
+    let part = floor(base[lowest], pool, base_of_others);
+    let remainder = after.leaves[lowest].share > part;
+    sink.when(remainder, Event::DonationRemainder);
+    let floored = members(after.donors).any(|n| after.leaves[n].share == SHARE_FLOOR);
+    sink.when(floored, Event::TargetFloor);
+}

@@ -1,0 +1,5 @@
+//! Traces as text: one record a line, its numbers in the record's order.
+
+pub mod assemble;
+mod line;
+pub mod list;

@@ -1,0 +1,240 @@
+//! The replay: a trace's records handed to the controller one by one.
+
+use std::io::{self, Read, Write};
+
+use crate::engine::controller::{Answer, Controller, MAX_WAITING};
+use crate::engine::cost::Model;
+use crate::engine::numbers::members;
+use crate::engine::refusal::Refusal;
+use crate::engine::rules::{Mutant, Rules};
+use crate::engine::tree::Tree;
+use crate::trace::record::{Record, START};
+use crate::trace::stream::Stream;
+
+/// What the records so far have built. A replay has one phase at a time and
+/// keeps it in place, so the size of the larger one costs nothing.
+#[allow(clippy::large_enum_variant)]
+#[derive(Clone, Debug, PartialEq, Eq)]
+pub enum Phase {
+    Setup { tree: Tree, model: Option<Model> },
+    Running(Controller),
+}
+
+/// What one record led to.
+#[derive(Clone, Copy, Debug, PartialEq, Eq)]
+pub enum Outcome {
+    /// Accepted, and nothing to print.
+    Quiet,
+    Answered(Answer, u32),
+    /// So many ids are in the buffer of released bios.
+    Released(usize),
+    Planned,
+    Refused(Refusal),
+}
+
+#[derive(Clone)]
+pub struct Replay {
+    pub phase: Phase,
+    rules: Rules,
+    released: [u32; MAX_WAITING],
+    stopped: bool,
+}
+
+impl Replay {
+    pub fn new(rules: Rules) -> Replay {
+        Replay {
+            phase: Phase::Setup {
+                tree: Tree::new(),
+                model: None,
+            },
+            rules,
+            released: [0; MAX_WAITING],
+            stopped: false,
+        }
+    }
+
+    /// Whether a refusal ended the replay.
+    pub fn stopped(&self) -> bool {
+        self.stopped
+    }
+
+    /// The controller, once started.
+    pub fn controller(&self) -> Option<&Controller> {
+        match &self.phase {
+            Phase::Setup { .. } => None,
+            Phase::Running(controller) => Some(controller),
+        }
+    }
+
+    /// Takes the next record, or the refusal the reader gave for it.
+    pub fn take(&mut self, next: Result<Record, Refusal>) -> Outcome {
+        let taken = next.and_then(|record| match self.phase {
+            Phase::Setup { .. } => self.set_up(&record),
+            Phase::Running(_) => self.run(&record),
+        });
+        match taken {
+            Ok(outcome) => outcome,
+            Err(refusal) => {
+                let in_setup = self.controller().is_none();
+                let goes_on = if refusal.ends_trace() {
+                    !in_setup
+                        && refusal == Refusal::WrongPhase
+                        && self.rules.changed(Mutant::PhaseGoesOn)
+                } else {
+                    in_setup && self.rules.changed(Mutant::SetupGoesOn)
+                };
+                let stops =
+                    in_setup || refusal.ends_trace() || self.rules.changed(Mutant::RefusalStops);
+                self.stopped = stops && !goes_on;
+                Outcome::Refused(refusal)
+            }
+        }
+    }
+
+    /// A cut record is refused 17 whatever its phase, but under the mutant
+    /// that first looks at the phase of its kind.
+    fn phase_first(
+        &self,
+        next: Result<Record, Refusal>,
+        kind: Option<u8>,
+    ) -> Result<Record, Refusal> {
+        let for_setup = kind.map_or(false, |kind| kind <= START);
+        let out_of_phase = for_setup == self.controller().is_some();
+        match next {
+            Err(Refusal::CutRecord)
+                if out_of_phase && self.rules.changed(Mutant::PhaseBeforeCut) =>
+            {
+                Err(Refusal::WrongPhase)
+            }
+            _ => next,
+        }
+    }
+
+    fn set_up(&mut self, record: &Record) -> Result<Outcome, Refusal> {
+        let (tree, model) = match &mut self.phase {
+            Phase::Setup { tree, model } => (tree, model),
+            Phase::Running(_) => return Err(Refusal::WrongPhase),
+        };
+        match (record, *model) {
+            (Record::Node { parent, weight }, _) => {
+                tree.add(*parent, *weight, self.rules)?;
+                if self.rules.changed(Mutant::ThinAtNode) {
+                    tree.check_thin(self.rules)?;
+                }
+            }
+            (Record::Model(rates), None) => *model = Some(Model::new(rates, self.rules)?),
+            (Record::Model(rates), Some(_)) if self.rules.changed(Mutant::SecondModel) => {
+                *model = Some(Model::new(rates, self.rules)?)
+            }
+            (Record::Model(rates), Some(_)) if self.rules.changed(Mutant::RatesBeforePhase) => {
+                Model::new(rates, self.rules)?;
+                return Err(Refusal::WrongPhase);
+            }
+            (Record::Start { time }, Some(given)) => {
+                let controller = Controller::start(tree.clone(), given, *time, self.rules)?;
+                self.phase = Phase::Running(controller);
+            }
+            (Record::Start { .. }, None) if self.rules.changed(Mutant::TreeBeforePhase) => {
+                tree.check(self.rules)?;
+                return Err(Refusal::WrongPhase);
+            }
+            _ => return Err(Refusal::WrongPhase),
+        }
+        Ok(Outcome::Quiet)
+    }
+
+    fn run(&mut self, record: &Record) -> Result<Outcome, Refusal> {
+        let controller = match &mut self.phase {
+            Phase::Setup { .. } => return Err(Refusal::WrongPhase),
+            Phase::Running(controller) => controller,
+        };
+        match record {
+            Record::Bio(bio) => Ok(Outcome::Answered(controller.submit(bio)?, bio.id)),
+            Record::Tick { time } => {
+                let count = controller.tick(*time, &mut self.released)?;
+                Ok(Outcome::Released(count))
+            }
+            Record::Plan => {
+                controller.plan()?;
+                Ok(Outcome::Planned)
+            }
+            Record::Vrate { vrate } => {
+                controller.set_vrate(*vrate)?;
+                Ok(Outcome::Quiet)
+            }
+            Record::Start { time } if self.rules.changed(Mutant::SecondStart) => {
+                let tree = controller.tree.clone();
+                *controller = Controller::start(tree, controller.model, *time, self.rules)?;
+                Ok(Outcome::Quiet)
+            }
+            Record::Node { .. } | Record::Model(_) | Record::Start { .. } => {
+                Err(Refusal::WrongPhase)
+            }
+        }
+    }
+
+    /// How many lines the last outcome prints.
+    pub fn line_count(&self, outcome: Outcome) -> u64 {
+        match outcome {
+            Outcome::Quiet => 0,
+            Outcome::Answered(..) | Outcome::Refused(_) => 1,
+            Outcome::Released(count) => count as u64,
+            Outcome::Planned => self
+                .controller()
+                .map_or(0, |c| u64::from(c.active.count_ones())),
+        }
+    }
+
+    /// Prints the lines of the last outcome.
+    pub fn print(&self, outcome: Outcome, out: &mut impl Write) -> io::Result<()> {
+        match outcome {
+            Outcome::Quiet => Ok(()),
+            Outcome::Answered(Answer::Issued, id) => writeln!(out, "I {}", id),
+            Outcome::Answered(Answer::Waits, id) => writeln!(out, "W {}", id),
+            Outcome::Answered(Answer::OnDebt, id) => writeln!(out, "D {}", id),
+            Outcome::Released(count) => {
+                for id in &self.released[..count] {
+                    writeln!(out, "r {}", id)?;
+                }
+                Ok(())
+            }
+            Outcome::Planned => self.print_shares(out),
+            Outcome::Refused(refusal) => writeln!(out, "R {}", refusal.number()),
+        }
+    }
+
+    fn print_shares(&self, out: &mut impl Write) -> io::Result<()> {
+        if let Some(controller) = self.controller() {
+            let mut left = if self.rules.changed(Mutant::LinesOfInactive) {
+                members(controller.tree.leaves())
+            } else {
+                members(controller.active)
+            };
+            let falling = self.rules.changed(Mutant::FallingLines);
+            while let Some(number) = if falling {
+                left.next_back()
+            } else {
+                left.next()
+            } {
+                writeln!(out, "P {} {}", number, controller.leaves[number].share)?;
+            }
+        }
+        Ok(())
+    }
+}
+
+/// Replays a whole trace and prints what it leads to.
+pub fn replay(input: impl Read, out: &mut impl Write, rules: Rules) -> io::Result<()> {
+    let mut stream = Stream::new(input);
+    let mut replay = Replay::new(rules);
+    while !replay.stopped() {
+        match stream.next()? {
+            None => break,
+            Some(next) => {
+                let outcome = replay.take(replay.phase_first(next, stream.next_kind()));
+                replay.print(outcome, out)?;
+            }
+        }
+    }
+    out.flush()
+}
