@@ -4,7 +4,7 @@
 # The last line is 'N passed, M failed'.
 set -uo pipefail
 cd "$(dirname "$0")/.." || exit 1
-source compare/common
+source agreement/common
 
 passed=0
 failed=0

@@ -8,7 +8,7 @@ here=$(cd "$(dirname "$0")" && pwd -P)
 whole=$here/../crates/replay/data/whole-case.trace
 binary=$(readlink -f "${1:?usage: tests/replay.sh BINARY [SECOND]}")
 second=${2:+$(readlink -f "$2")}
-source "$here/../compare/common"
+source "$here/../agreement/common"
 work=$(mktemp -d) || exit 1
 trap 'rm -rf "$work"' EXIT
 cd "$work" || exit 1
