@@ -1,6 +1,8 @@
 //! Runs a program in a setting that a shell cannot make, with the status that it ends with.
 //! `setting nonblocking CMD..`: its standard input and output do not wait.
 //! `setting watched CMD..`: its standard error is a terminal, and what it writes there goes to standard error.
+//! `setting shown CMD..`: its standard output is that terminal too.
+//! `setting typed CMD..`: its standard input is a terminal, on which the end is typed.
 use std::fs::File;
 use std::io::{Read, Write};
 use std::os::raw::{c_char, c_int};
@@ -45,8 +47,16 @@ fn main() {
             do_not_wait(1);
             command.status().unwrap()
         }
-        "watched" => {
+        "typed" => {
             let (mut manager, other) = terminal();
+            manager.write_all(b"\x04").unwrap();
+            command.stdin(Stdio::from(other)).status().unwrap()
+        }
+        "watched" | "shown" => {
+            let (mut manager, other) = terminal();
+            if words[0] == "shown" {
+                command.stdout(Stdio::from(other.try_clone().unwrap()));
+            }
             let mut child = command.stderr(Stdio::from(other)).spawn().unwrap();
             drop(command);
             let mut seen = Vec::new();

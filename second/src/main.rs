@@ -12,6 +12,7 @@ mod text;
 mod trace;
 
 use std::env;
+use std::ffi::OsString;
 use std::fs::File;
 use std::io::{self, BufRead, BufReader, BufWriter, Read, Write};
 use std::process::ExitCode;
@@ -22,8 +23,7 @@ use engine::rules::{Mutant, Rules};
 use generator::generate::generate;
 use generator::style::Style;
 use observation::census::Census;
-use text::assemble::assemble;
-use text::list::list;
+use text::tool;
 use trace::replay::replay;
 
 const USAGE: &str = "usage: second COMMAND
@@ -47,8 +47,14 @@ Without FILE, standard input is read.";
 type Done = Result<bool, String>;
 
 fn main() -> ExitCode {
-    let words: Vec<String> = env::args_os()
-        .skip(1)
+    let words: Vec<OsString> = env::args_os().skip(1).collect();
+    if let Some((name, rest)) = words.split_first() {
+        if let Some(command) = tool::Command::named(&name.to_string_lossy()) {
+            return ExitCode::from(tool::run(command, rest));
+        }
+    }
+    let words: Vec<String> = words
+        .iter()
         .map(|word| word.to_string_lossy().into_owned())
         .collect();
     let words: Vec<&str> = words.iter().map(String::as_str).collect();
@@ -78,10 +84,6 @@ fn run(words: &[&str]) -> Done {
         ["gen", seed, records, style] => generate_trace(seed, Some(*records), Some(*style)),
         ["census", files @ ..] => take_census(files),
         ["compare", ours, theirs, trace] => compare_outputs(ours, theirs, trace),
-        ["text"] => list_text(None),
-        ["text", file] => list_text(Some(*file)),
-        ["bytes"] => make_bytes(None),
-        ["bytes", file] => make_bytes(Some(*file)),
         ["against", ours, rest @ ..] => {
             let options = Options::read(rest)?;
             against::run(ours, options.seed, &options.cases, options.tally()).map_err(said)
@@ -263,17 +265,4 @@ fn compare_outputs(ours: &str, theirs: &str, trace: &str) -> Done {
             Ok(false)
         }
     }
-}
-
-fn list_text(file: Option<&str>) -> Done {
-    list(input(file)?, &mut output()).map_err(said)?;
-    Ok(true)
-}
-
-fn make_bytes(file: Option<&str>) -> Done {
-    let lines = BufReader::new(input(file)?);
-    let name = file.unwrap_or("standard input");
-    let trace = assemble(lines).map_err(|fault| format!("{}: {}", name, fault))?;
-    io::stdout().write_all(&trace).map_err(said)?;
-    Ok(true)
 }

@@ -15,7 +15,7 @@ use crate::generator::generate::generate;
 use crate::generator::setup::{BENCH, LINUX, PAPER};
 use crate::generator::style::Style;
 use crate::observation::ledger::audit;
-use crate::text::assemble::assemble;
+use crate::text::assemble::assemble_whole;
 use crate::text::list::list;
 use crate::trace::record::{decode, encode, Record, LONGEST};
 use crate::trace::replay::replay;
@@ -236,7 +236,7 @@ fn bench_plans(checks: &mut Checks) -> Result<(), Refusal> {
 
 fn trace_of(text: &str) -> Vec<u8> {
     // A refused text leaves an empty trace, which the checks then notice.
-    assemble(text.as_bytes()).unwrap_or_default()
+    assemble_whole(text.as_bytes()).unwrap_or_default()
 }
 
 fn whole_case(checks: &mut Checks) -> io::Result<()> {
@@ -466,7 +466,7 @@ fn text_refusals(checks: &mut Checks) -> Result<(), Refusal> {
         (b"plan\nplan \xff", "line 2: this is no text"),
     ];
     for (text, wanted) in refusals {
-        let said = assemble(text).map_err(|fault| fault.to_string());
+        let said = assemble_whole(text).map_err(|fault| fault.to_string());
         checks.equal(wanted, said, Err(wanted.to_string()));
     }
     Ok(())

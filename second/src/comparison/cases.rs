@@ -9,7 +9,7 @@ use crate::comparison::pair::{difference, on_all_cores, Pair};
 use crate::comparison::tally::Tally;
 use crate::comparison::watch::{Feed, Watch, PATIENCE};
 use crate::observation::census::{count_trace, Census};
-use crate::text::assemble::assemble;
+use crate::text::assemble::assemble_whole;
 
 /// A stored case by its files: NAME.text, NAME.lines, and NAME.trace if the
 /// bytes are stored too.
@@ -100,8 +100,7 @@ fn read(path: &Path) -> Result<Case, String> {
         |path: &Path| fs::read(path).map_err(|fault| format!("{}: {}", path.display(), fault));
     let text = bytes_of(path)?;
     let lines = bytes_of(&path.with_extension("lines"))?;
-    let trace =
-        assemble(text.as_slice()).map_err(|fault| format!("{}: {}", path.display(), fault))?;
+    let trace = assemble_whole(&text).map_err(|fault| format!("{}: {}", path.display(), fault))?;
     if said_lines(&text) != lines {
         let fault = "its comments promise other lines than are stored";
         return Err(format!("{}: {}", path.display(), fault));

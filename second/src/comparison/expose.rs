@@ -12,7 +12,7 @@ use crate::comparison::samples::samples;
 use crate::comparison::tally::Tally;
 use crate::comparison::watch::{Feed, Program, Watch, PATIENCE};
 use crate::engine::rules::Mutant;
-use crate::text::assemble::assemble;
+use crate::text::assemble::assemble_whole;
 
 /// Mutants that only stored cases tell apart: what it takes is too rare for
 /// generated traces.
@@ -153,7 +153,7 @@ fn notice(script: &str, watch: &Watch) -> io::Result<Option<String>> {
     let text = "node 0 100\nnode 0 300\n\
          model 409600000 50000 10000 204800000 25000 5000\nstart 0\n\
          bio 1 0 7 0 4096\ntick 100000\ntick 400000\nplan\n";
-    let trace = assemble(text.as_bytes()).unwrap_or_default();
+    let trace = assemble_whole(text.as_bytes()).unwrap_or_default();
     let failure = pair.run(watch, &trace, Feed::Named)?;
     Ok(failure.map(|failure| failure.reason.trim_end().to_string()))
 }

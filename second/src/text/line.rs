@@ -1,17 +1,25 @@
 //! One line of text and the bytes that it stands for.
 
+use std::str::SplitWhitespace;
+
 use crate::engine::cost::{Bio, Rates};
 use crate::trace::record::{encode, Record, LONGEST};
+
+/// So many characters of a bad word are said.
+const SAID: usize = 40;
+
+/// The most numbers of a record: those of a model.
+const MOST_NUMBERS: usize = 6;
 
 /// Adds the bytes that one line stands for.
 pub fn add_line(line: &str, trace: &mut Vec<u8>) -> Result<(), String> {
     let plain = line.split('#').next().unwrap_or("");
-    let words: Vec<&str> = plain.split_whitespace().collect();
-    match words.split_first() {
+    let mut words = plain.split_whitespace();
+    match words.next() {
         None => Ok(()),
-        Some((&"raw", digits)) => add_raw(digits, trace),
-        Some((name, numbers)) => {
-            let record = parse_record(name, numbers)?;
+        Some("raw") => add_raw(words, trace),
+        Some(name) => {
+            let record = parse_record(name, words)?;
             let mut buffer = [0; LONGEST];
             let length = encode(&record, &mut buffer)
                 .map_err(|refusal| format!("the writer refuses it, {}", refusal.number()))?;
@@ -21,8 +29,16 @@ pub fn add_line(line: &str, trace: &mut Vec<u8>) -> Result<(), String> {
     }
 }
 
-fn add_raw(words: &[&str], trace: &mut Vec<u8>) -> Result<(), String> {
-    if words.is_empty() {
+/// What is said of a word: all of it, or the beginning of a long one.
+fn shortened(word: &str) -> String {
+    match word.char_indices().nth(SAID) {
+        None => word.to_string(),
+        Some((place, _)) => format!("{}..", &word[..place]),
+    }
+}
+
+fn add_raw(words: SplitWhitespace, trace: &mut Vec<u8>) -> Result<(), String> {
+    if words.clone().next().is_none() {
         return Err("too few words: raw takes pairs of hex digits".to_string());
     }
     for word in words {
@@ -32,7 +48,7 @@ fn add_raw(words: &[&str], trace: &mut Vec<u8>) -> Result<(), String> {
         if word.len() % 2 != 0 {
             return Err(format!(
                 "raw takes pairs of hex digits, and '{}' is odd",
-                word
+                shortened(word)
             ));
         }
         let value = |digit: u8| char::from(digit).to_digit(16).unwrap_or(0) as u8;
@@ -90,28 +106,36 @@ fn wrong_count(name: &str, fields: &[Field], given: usize) -> String {
 /// A number as listed: digits only, and no wider than its place.
 fn parse_number(word: &str, (name, most): Field) -> Result<u64, String> {
     if !word.bytes().all(|byte| byte.is_ascii_digit()) {
-        return Err(format!("{}: '{}' is not a number", name, word));
+        return Err(format!("{}: '{}' is not a number", name, shortened(word)));
     }
     match word.parse::<u64>() {
         Ok(value) if value <= most => Ok(value),
-        _ => Err(format!("{}: {} is too large, at most {}", name, word, most)),
+        _ => {
+            let word = shortened(word);
+            Err(format!("{}: {} is too large, at most {}", name, word, most))
+        }
     }
 }
 
-fn parse_record(name: &str, words: &[&str]) -> Result<Record, String> {
+fn parse_record(name: &str, words: SplitWhitespace) -> Result<Record, String> {
     let fields = fields(name).ok_or_else(|| {
         let known = "node, model, start, bio, tick, plan, vrate or raw";
-        format!("unknown word '{}': a line begins with {}", name, known)
+        format!(
+            "unknown word '{}': a line begins with {}",
+            shortened(name),
+            known
+        )
     })?;
-    if words.len() != fields.len() {
-        return Err(wrong_count(name, fields, words.len()));
+    let given = words.clone().count();
+    if given != fields.len() {
+        return Err(wrong_count(name, fields, given));
     }
-    let mut numbers = Vec::new();
-    for (word, field) in words.iter().zip(fields) {
-        numbers.push(parse_number(word, *field)?);
+    let mut numbers = [0; MOST_NUMBERS];
+    for ((word, field), number) in words.zip(fields).zip(&mut numbers) {
+        *number = parse_number(word, *field)?;
     }
     // Each number was held to the width it is now cut to.
-    Ok(match (name, numbers.as_slice()) {
+    Ok(match (name, &numbers[..given]) {
         ("node", &[parent, weight]) => Record::Node {
             parent: parent as u8,
             weight: weight as u16,
