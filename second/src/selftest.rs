@@ -7,7 +7,7 @@ use std::io::{self, Write};
 use crate::engine::controller::{Answer, Controller, MAX_ELAPSED, MAX_PERIOD, MAX_VIRTUAL_TIME};
 use crate::engine::cost::{Bio, Model, Rates, Side, FORCED, WRITE};
 use crate::engine::leaf::relative_cost;
-use crate::engine::numbers::{members, Absolute, Relative};
+use crate::engine::numbers::{ceil, floor, members, Absolute, Relative};
 use crate::engine::refusal::Refusal;
 use crate::engine::rules::{Mutant, Rules};
 use crate::engine::tree::Tree;
@@ -39,12 +39,13 @@ impl Checks {
 }
 
 /// Fewer checks are no test: a loop over nothing is no success.
-const LEAST: u64 = 736;
+const LEAST: u64 = 747;
 
 /// A group of checks; a refusal ends it where none belongs.
 type Group = fn(&mut Checks) -> Result<(), Refusal>;
 
 const GROUPS: &[(&str, Group)] = &[
+    ("roundings", roundings),
     ("bench costs", bench_costs),
     ("bench shares", bench_shares),
     ("bench budget", bench_budget),
@@ -88,6 +89,27 @@ pub fn run(out: &mut impl Write) -> io::Result<bool> {
     let failed = checks.failures.len();
     writeln!(out, "{} passed, {} failed", checks.passed, failed)?;
     Ok(failed == 0)
+}
+
+/// Products just within 64 bits and just past them are divided alike.
+fn roundings(checks: &mut Checks) -> Result<(), Refusal> {
+    let half = 1 << 32;
+    for (a, b, c, down, up) in [
+        (7, 1, 7, 1, 1),
+        (7, 1, 2, 3, 4),
+        (0, 5, 3, 0, 0),
+        (u64::MAX, 1, 1, u64::MAX, u64::MAX),
+        (u64::MAX, 1, 2, (1 << 63) - 1, 1 << 63),
+        (half - 1, half + 1, half, half - 1, half),
+        (half, half, half, half, half),
+        (half, half + 1, half, half + 1, half + 1),
+        (half + 1, half + 1, half, half + 2, half + 3),
+        (u64::MAX, u64::MAX, u64::MAX, u64::MAX, u64::MAX),
+    ] {
+        let name = format!("{} x {} / {}", a, b, c);
+        checks.equal(&name, (floor(a, b, c), ceil(a, b, c)), (down, up));
+    }
+    Ok(())
 }
 
 fn tree_of(nodes: &[(u8, u16)]) -> Result<Tree, Refusal> {

@@ -313,7 +313,8 @@ impl Controller {
                 return Err(refusal);
             }
         };
-        if released.len() < self.waiting() {
+        // A buffer for all that can wait is long enough, whatever waits.
+        if released.len() < MAX_WAITING && released.len() < self.waiting() {
             return Err(Refusal::ReleaseBufferShort);
         }
         if time == self.time && self.rules.changed(Mutant::TickOfZeroSkipped) {

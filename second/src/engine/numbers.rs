@@ -31,15 +31,21 @@ impl SubAssign for Relative {
     }
 }
 
-/// FLOOR(a x b / c). The product is taken in 128 bits, so it never overflows;
-/// every quotient the rules ask for fits 64 bits.
+/// FLOOR(a x b / c). Where the product passes 64 bits it is taken in 128, so
+/// it never overflows; every quotient the rules ask for fits 64 bits.
 pub fn floor(a: u64, b: u64, c: u64) -> u64 {
-    (u128::from(a) * u128::from(b) / u128::from(c)) as u64
+    match a.checked_mul(b) {
+        Some(product) => product / c,
+        None => (u128::from(a) * u128::from(b) / u128::from(c)) as u64,
+    }
 }
 
 /// CEIL(a x b / c), on the same terms as `floor`.
 pub fn ceil(a: u64, b: u64, c: u64) -> u64 {
-    ((u128::from(a) * u128::from(b) + u128::from(c) - 1) / u128::from(c)) as u64
+    match a.checked_mul(b) {
+        Some(product) => product / c + u64::from(product % c != 0),
+        None => ((u128::from(a) * u128::from(b) + u128::from(c) - 1) / u128::from(c)) as u64,
+    }
 }
 
 /// Whether `number` is in the set kept as bits of one number.

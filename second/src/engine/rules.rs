@@ -211,12 +211,20 @@ impl Rules {
 
     /// FLOOR(a x b / c), but CEIL under the mutant.
     pub fn floor(self, mutant: Mutant, a: u64, b: u64, c: u64) -> u64 {
-        (if self.changed(mutant) { ceil } else { floor })(a, b, c)
+        if self.changed(mutant) {
+            ceil(a, b, c)
+        } else {
+            floor(a, b, c)
+        }
     }
 
     /// CEIL(a x b / c), but FLOOR under the mutant.
     pub fn ceil(self, mutant: Mutant, a: u64, b: u64, c: u64) -> u64 {
-        (if self.changed(mutant) { floor } else { ceil })(a, b, c)
+        if self.changed(mutant) {
+            floor(a, b, c)
+        } else {
+            ceil(a, b, c)
+        }
     }
 
     /// The limit, but one less under one mutant and one more under another.

@@ -40,10 +40,9 @@ pub fn record_length(kind: u8) -> Result<usize, Refusal> {
 
 /// The little-endian number of `width` bytes at `place`.
 fn number(bytes: &[u8], place: usize, width: usize) -> u64 {
-    bytes[place..place + width]
-        .iter()
-        .rev()
-        .fold(0, |sum, &byte| sum << 8 | u64::from(byte))
+    let mut whole = [0; 8];
+    whole[..width].copy_from_slice(&bytes[place..place + width]);
+    u64::from_le_bytes(whole)
 }
 
 /// Reads the record at `place` and the place behind it. At the end there is

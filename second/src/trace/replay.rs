@@ -189,17 +189,17 @@ impl Replay {
     pub fn print(&self, outcome: Outcome, out: &mut impl Write) -> io::Result<()> {
         match outcome {
             Outcome::Quiet => Ok(()),
-            Outcome::Answered(Answer::Issued, id) => writeln!(out, "I {}", id),
-            Outcome::Answered(Answer::Waits, id) => writeln!(out, "W {}", id),
-            Outcome::Answered(Answer::OnDebt, id) => writeln!(out, "D {}", id),
+            Outcome::Answered(Answer::Issued, id) => print_line(out, b'I', &[u64::from(id)]),
+            Outcome::Answered(Answer::Waits, id) => print_line(out, b'W', &[u64::from(id)]),
+            Outcome::Answered(Answer::OnDebt, id) => print_line(out, b'D', &[u64::from(id)]),
             Outcome::Released(count) => {
                 for id in &self.released[..count] {
-                    writeln!(out, "r {}", id)?;
+                    print_line(out, b'r', &[u64::from(*id)])?;
                 }
                 Ok(())
             }
             Outcome::Planned => self.print_shares(out),
-            Outcome::Refused(refusal) => writeln!(out, "R {}", refusal.number()),
+            Outcome::Refused(refusal) => print_line(out, b'R', &[u64::from(refusal.number())]),
         }
     }
 
@@ -216,11 +216,40 @@ impl Replay {
             } else {
                 left.next()
             } {
-                writeln!(out, "P {} {}", number, controller.leaves[number].share)?;
+                let share = controller.leaves[number].share;
+                print_line(out, b'P', &[number as u64, share])?;
             }
         }
         Ok(())
     }
+}
+
+/// The longest line: a letter, two numbers with a space before each, and the
+/// newline.
+const LONGEST_LINE: usize = 1 + 2 * 21 + 1;
+
+/// Prints a letter and one or two numbers. The line is made from its end, where
+/// a number's last digit is; formatting by the library takes far longer.
+fn print_line(out: &mut impl Write, letter: u8, numbers: &[u64]) -> io::Result<()> {
+    let mut line = [b' '; LONGEST_LINE];
+    let mut first = LONGEST_LINE - 1;
+    line[first] = b'\n';
+    for number in numbers.iter().rev() {
+        let mut left = *number;
+        loop {
+            first -= 1;
+            line[first] = b'0' + (left % 10) as u8;
+            left /= 10;
+            if left == 0 {
+                break;
+            }
+        }
+        // Here the space stands already.
+        first -= 1;
+    }
+    first -= 1;
+    line[first] = letter;
+    out.write_all(&line[first..])
 }
 
 /// Replays a whole trace and prints what it leads to.
