@@ -3,6 +3,7 @@
 mod aim;
 pub mod damage;
 pub mod generate;
+pub mod growth;
 mod moves;
 pub mod random;
 pub mod setup;

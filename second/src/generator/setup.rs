@@ -115,8 +115,19 @@ pub fn deep_setup(random: &mut Random) -> Vec<Record> {
     setup_on_bench(&nodes)
 }
 
+/// So many leaves of the same weight right below the root.
+pub fn even_setup(leaves: u64, rates: Rates) -> Vec<Record> {
+    let nodes: Nodes = (0..leaves).map(|_| (0, 100)).collect();
+    setup_on(rates, &nodes)
+}
+
 fn setup_on_bench(nodes: &[(u8, u16)]) -> Vec<Record> {
-    let mut records = vec![Record::Model(BENCH)];
+    setup_on(BENCH, nodes)
+}
+
+/// The model first, then the nodes, and a start at 0.
+fn setup_on(rates: Rates, nodes: &[(u8, u16)]) -> Vec<Record> {
+    let mut records = vec![Record::Model(rates)];
     records.extend(
         nodes
             .iter()
@@ -247,7 +258,8 @@ fn any_rates(random: &mut Random) -> Rates {
     }
 }
 
-fn same_rates(bps: u64, iops: u64) -> Rates {
+/// The same rates for reading and writing.
+pub fn same_rates(bps: u64, iops: u64) -> Rates {
     Rates {
         rbps: bps,
         rseqiops: iops,
