@@ -2,8 +2,8 @@
 # The documents against the files: every must-fail edit that the map (docs/proof-map.md, theorems.md and guards.md) or
 # docs/entries.md names is there, every edit that is there is named in the map or in a table of edits, and every path that
 # README.md or docs/*.md names is there. An edit is named as `crate/name`, or by its bare name in a table that says its crate:
-# those of docs/guards.md, and the last column of the entries. So is every theorem that they name. The last line is
-# 'N passed, M failed'.
+# those of docs/guards.md, and the last column of the entries. So is every theorem that they name. And the second program's
+# folders are those of its table, in its order. The last line is 'N passed, M failed'.
 set -uo pipefail
 export LC_ALL=C
 cd "$(dirname "$0")/.." || exit 1
@@ -103,5 +103,20 @@ for document in README.md docs/*.md; do
     done < <(quoted <"$document" | grep -xE '[a-z0-9]+(-[a-z0-9]+)+' | sort -u)
 done
 
+# ---- the second program's folders: all are in its table, and each uses none that stands below it there
+rows second/README.md 'Where things are' >"$work/rows.folders"
+is "the table of the second program's folders has no row" [ -s "$work/rows.folders" ]
+above=' '
+while IFS= read -r row; do
+    folder=$(cell "$row" 1 | quoted | tr -d /)
+    above="$above$folder "
+    while read -r used; do
+        is "second/src/$folder uses $used, which does not stand above it" grep -qF " $used " <<<"$above"
+    done < <(grep -rhoE '\bcrate::[a-z_]+' "second/src/$folder" | sed 's/.*:://' | sort -u)
+done <"$work/rows.folders"
+for folder in second/src/*/; do
+    is "$folder is in no row of second/README.md" grep -qF " $(basename "$folder") " <<<"$above"
+done
+
 # The documents may say a name or two less; none of the loops above may run over nothing.
-close_count "$passed" "$failed" 625
+close_count "$passed" "$failed" 650
