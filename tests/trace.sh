@@ -257,10 +257,10 @@ is "a reader that leaves after a byte" [ "${ended[0]} $(wc -c <err) $(wc -c <out
 # ---- terminals
 ./setting typed timeout "$limit" "$tool" text >out 2>err
 status=$?
-is "it says what it waits for on a terminal" only_said 0 'trace: waits for a trace on standard input, which is a terminal'
+is "it says what it waits for on a terminal" only_said 0 'trace: waits for a trace on standard input'
 ./setting typed timeout "$limit" "$tool" bytes >out 2>err
 status=$?
-is "and so for a text" only_said 0 'trace: waits for lines of text on standard input, which is a terminal'
+is "and so for a text" only_said 0 'trace: waits for lines of text on standard input'
 ./setting typed timeout "$limit" "$tool" text - >out 2>err
 status=$?
 is "but not where the terminal is named" wrote nothing

@@ -72,34 +72,18 @@ enum Asked {
     Help,
     /// A file, or standard input where none is named.
     File(Option<OsString>),
-    Nothing(String),
 }
 
 /// Does what a command's words ask for, and answers the status.
 pub fn run(command: Command, words: &[OsString]) -> u8 {
     let done = match read_words(words) {
-        Asked::Nothing(reason) => {
-            say(&format!(
-                "{} (./trace {} --help says what there is)",
-                reason,
-                command.name()
-            ));
+        Err(reason) => {
+            let more = format!("(./trace {} --help says what there is)", command.name());
+            say(&format!("{} {}", reason, more));
             return MISUSED;
         }
-        Asked::Help => help(command),
-        Asked::File(None) => {
-            if is_terminal(STANDARD_INPUT) {
-                say(&format!(
-                    "waits for {} on standard input, which is a terminal",
-                    command.waits_for()
-                ));
-            }
-            Input::standard().and_then(|input| convert(command, input))
-        }
-        Asked::File(Some(file)) if file == "-" => {
-            Input::standard().and_then(|input| convert(command, input))
-        }
-        Asked::File(Some(file)) => Input::open(&file).and_then(|input| convert(command, input)),
+        Ok(Asked::Help) => help(command),
+        Ok(Asked::File(file)) => open(command, file).and_then(|input| convert(command, input)),
     };
     match done {
         Ok(()) => FINE,
@@ -113,26 +97,42 @@ pub fn run(command: Command, words: &[OsString]) -> u8 {
     }
 }
 
-/// Options come before `--`, and at most one file anywhere.
-fn read_words(words: &[OsString]) -> Asked {
+/// Options come before `--`, and at most one file anywhere. What is wrong with
+/// the words is said.
+fn read_words(words: &[OsString]) -> Result<Asked, String> {
     let mut file = None;
     let mut options = true;
     for word in words {
         let shown = word.to_string_lossy();
         if options && (shown == "-h" || shown == "--help") {
-            return Asked::Help;
+            return Ok(Asked::Help);
         }
         if options && shown == "--" {
             options = false;
         } else if options && shown.len() > 1 && shown.starts_with('-') {
-            return Asked::Nothing(format!("unknown option '{}'", shown));
+            return Err(format!("unknown option '{}'", shown));
         } else if file.is_some() {
-            return Asked::Nothing("too many arguments: name one file, or none".to_string());
+            return Err("too many arguments: name one file, or none".to_string());
         } else {
             file = Some(word.clone());
         }
     }
-    Asked::File(file)
+    Ok(Asked::File(file))
+}
+
+/// Who names nothing at a terminal may not know that the tool waits.
+fn open(command: Command, file: Option<OsString>) -> io::Result<Input> {
+    match file {
+        None => {
+            if is_terminal(STANDARD_INPUT) {
+                let what = command.waits_for();
+                say(&format!("waits for {} on standard input", what));
+            }
+            Input::standard()
+        }
+        Some(file) if file == "-" => Input::standard(),
+        Some(file) => Input::open(&file),
+    }
 }
 
 fn help(command: Command) -> io::Result<()> {
