@@ -18,11 +18,11 @@ use Rattle.rules.specs.Laws.Bools.{true-not-false, and-left, and-right, or-not-
 use Rattle.rules.specs.Laws.Buffers.{stands-none, stands-kept, stands-rest, stands-fits, stands-more}
 use Rattle.rules.specs.Laws.Replays.{read-step-plays}
 use Rattle.rules.specs.Laws.Runs.{Continues, holding, call-moves, run-keeps, run-continues, run-moves}
-use Rattle.rules.specs.Laws.Chunks.{going-steps, stepAt, nextAt, After, after-a-step, part-inside}
-use Rattle.rules.specs.Laws.Chunks.After.{goes-on, stops, ends}
+use Rattle.rules.specs.Laws.Chunks.{going-steps, stepAt, nextAt, AfterStep, after-a-step, part-inside}
+use Rattle.rules.specs.Laws.Chunks.AfterStep.{goes-on, stops, ends}
 use Rattle.calls.specs.Calls.{RanAs}
 use Rattle.steps.specs.Fed.{Feeds}
-use Rattle.steps.specs.Went.{Does}
+use Rattle.steps.specs.OneStep.{DoesStep}
 use Rattle.rules.specs.declared.trace.Read.{Read}
 use Rattle.rules.specs.declared.replay.Phase.{Phase}
 use Rattle.rules.specs.declared.replay.Replay.{Replay}
@@ -113,7 +113,7 @@ module _ {last : Bool} {trace : List ℕ} {place : ℕ} {s₀ : Replay} {o₀ o 
     unfolding isEnd
     moves e = rw (v .found) (go (after-a-step trace at s))
       where
-        go : After trace at s → (at < nextPlace (readAt trace at) at) × (nextPlace (readAt trace at) at ≤ length trace)
+        go : AfterStep trace at s → (at < nextPlace (readAt trace at) at) × (nextPlace (readAt trace at) at ≤ length trace)
         go (goes-on a b) = (a, b)
         go (stops f) = absurd (true-not-false (rw step-is at f) e)
         go (ends f) = absurd (true-not-false refl (rw (v .found, f) at (known .there)))
@@ -128,10 +128,10 @@ module _ {last : Bool} {trace : List ℕ} {place : ℕ} {s₀ : Replay} {o₀ o 
         ∙ rw (e, step-is, ← v .found, ← sub-add-eq, append-assoc)
 
     module _ {r : ℕ} {after : Replay} {ys : List ℕ} (kept : length ys ≡ length (restOf o count))
-        (does : Does (readStep read s) r after (restOf o count) ys) where
-      pub turn : {at' : ℕ} {read' : Read} → at' ≡ nextPlace read at → read' ≡ readAt trace at'
+        (does : DoesStep (readStep read s) r after (restOf o count) ys) where
+      pub steps-on : {at' : ℕ} {read' : Read} → at' ≡ nextPlace read at → read' ≡ readAt trace at'
           → Feeding last trace place s₀ o₀ (putBack o count ys) at' (count + r) read' (after .phase) after
-      turn {at'} {read'} to found = go (v .turns) refl (v .enough (known .on))
+      steps-on {at'} {read'} to found = go (v .turns) refl (v .enough (known .on))
         where
           go : (f : ℕ) → v .turns ≡ f → (1 ≤ f) × (1 + length trace ≤ at + f)
               → Feeding last trace place s₀ o₀ (putBack o count ys) at' (count + r) read' (after .phase) after

@@ -45,13 +45,13 @@ use Rattle.rules.specs.declared.replay.Printed.{Printed}
 use Rattle.rules.specs.declared.replay.Printed.the-variants.{Bytes, Short}
 use Rattle.rules.specs.declared.replay.Ran.{Ran}
 use Rattle.calls.specs.Calls.{RanAs}
-use Rattle.steps.specs.Went.{Does, Steps}
+use Rattle.steps.specs.OneStep.{DoesStep, Steps}
 
 -- ---- a step that is known
-pub same-step : {a b : Step} {count : ℕ} {s : Replay} (o₀ : List ℕ) {o : List ℕ} → b ≡ a → Does a count s o₀ o → Does b count s o₀ o
+pub same-step : {a b : Step} {count : ℕ} {s : Replay} (o₀ : List ℕ) {o : List ℕ} → b ≡ a → DoesStep a count s o₀ o → DoesStep b count s o₀ o
 same-step o₀ e d = rw e d
 
-pub no-bytes : {a : Step} {s : Replay} {o : List ℕ} → a ≡ silent s → Does a 0 s o o
+pub no-bytes : {a : Step} {s : Replay} {o : List ℕ} → a ≡ silent s → DoesStep a 0 s o o
 no-bytes e = rw e ((refl, refl), refl)
 
 -- ---- the model
@@ -120,7 +120,7 @@ module _ {read : Read} (s : Replay) where
   read-refused e = rw e
 
 pub same-read : {read q : Read} (s : Replay) {count : ℕ} {after : Replay} (o₀ : List ℕ) {o : List ℕ} → read ≡ q
-    → Does (readStep read s) count after o₀ o → Does (readStep q s) count after o₀ o
+    → DoesStep (readStep read s) count after o₀ o → DoesStep (readStep q s) count after o₀ o
 same-read s o₀ e d = rw (← e) d
 
 pub no-run : (s : Replay) (read : Read) {phase : Phase} {b : Bool} → s .phase ≡ phase → b ≡ runs phase read → b ≡ false → runs (s .phase) read ≡ false
@@ -172,7 +172,7 @@ no-call r early rest = omega (arith, kind-is r, late rest)
 pub one-call : (trace : List ℕ) (at : ℕ) (s : Replay) (o₀ : List ℕ) {read : Read} {phase : Phase} {b : Bool} {r : Ran} {o : List ℕ}
     → read ≡ readAt trace at → b ≡ runs phase read → b ≡ true → s .phase ≡ phase → lineRoom ≤ length o₀
     → RanAs (runFrom 1 trace (length o₀) at (s .state)) r o₀ o
-    → Does (readStep (readAt trace at) s) (r .count) (holding s (r .state)) o₀ o
+    → DoesStep (readStep (readAt trace at) s) (r .count) (holding s (r .state)) o₀ o
 unfolding runs runFrom
 one-call trace at s o₀ e f t q l ran =
     let on : runs (s .phase) (readAt trace at) ≡ true = rw (q, ← e) (sym f ∙ t) in
@@ -203,6 +203,6 @@ module _ (read : Read) (s : Replay) (lent : List ℕ) where
     steps-no-more t = record { answers = rw (fits, t); leaves = rw (fits, t) }
 
     pub steps-on : isStopped (s .phase) ≡ false → {count : ℕ} {after : Replay} {o : List ℕ}
-        → Does (readStep read s) count after lent o → Stepping (Bytes count) after o
+        → DoesStep (readStep read s) count after lent o → Stepping (Bytes count) after o
     unfolding stepping steppedTo stepped
     steps-on t d = record { answers = rw (fits, t, d .0 .0, d .1); leaves = rw (fits, t) (d .0 .1) }

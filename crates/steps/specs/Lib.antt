@@ -1,2 +1,2 @@
 pub mod Fed
-pub mod Went
+pub mod OneStep

@@ -8,7 +8,7 @@ ghost use Rattle.rules.specs.Chunks.{isCut, isEnd, wantsBytes, halts as haltsOf
 ghost use Rattle.rules.specs.Invariant.{Playing};
 ghost use Rattle.steps.specs.Fed.{Feeds, Prints, AtFront};
 use crate::record::is_stopped;
-use crate::record::went;
+use crate::record::follow;
 use calls::LINE_ROOM;
 use calls::next_place;
 use calls::run;
@@ -127,7 +127,7 @@ pub fn feed(mut s: Replay, trace: &[u8], place: usize, last: bool, out: &mut [u8
             s.state = state;
             read = trace::reader::read_from(trace, at);
         } else {
-            let step = went(read, s, &mut out[count..]);
+            let step = follow(read, s, &mut out[count..]);
             count += step.count;
             at = next_place(read, at);
             let after = step.replay;

@@ -8,7 +8,7 @@ ghost use Rattle.rules.specs.Trace.{kindOf, readAt};
 ghost use Rattle.rules.specs.Replay.{stopsAt, inPhase, isStopped, recordStep, readStep};
 ghost use Rattle.rules.specs.Chunks.{runs};
 ghost use Rattle.rules.specs.Invariant.{Playing};
-ghost use Rattle.steps.specs.Went.{Does, Steps};
+ghost use Rattle.steps.specs.OneStep.{DoesStep, Steps};
 use crate::setup;
 use calls::LINE_ROOM;
 use calls::run;
@@ -22,21 +22,21 @@ use rules::trace::Read;
 use rules::trace::Record;
 
 // How many bytes were written, and the replay after it.
-pub(crate) struct After {
+pub(crate) struct StepDone {
     pub count: usize,
     pub replay: Replay,
 }
 
 // "After R in setup, or 16 to 18, it stops".
-pub(crate) fn stopped(x: Refusal, s: Replay, out: &mut [u8]) -> After
+pub(crate) fn stopped(x: Refusal, s: Replay, out: &mut [u8]) -> StepDone
     requires { ⌜ refusalRoom ≤ length (now out) ⌝ }
-    ensures { λ r. ⌜ Does (stopsAt x s) (r .count) (r .replay) (now (out .entry)) (now (out .exit)) ⌝ }
+    ensures { λ r. ⌜ DoesStep (stopsAt x s) (r .count) (r .replay) (now (out .entry)) (now (out .exit)) ⌝ }
 {
     let tree = s.tree;
     let rates = s.rates;
     let state = s.state;
     let count = lines::put_refusal(x, out);
-    After {
+    StepDone {
         count,
         replay: Replay {
             phase: Phase::Stopped,
@@ -61,9 +61,9 @@ fn in_phase(phase: Phase, r: Record) -> bool
 }
 
 // A record of setup in its phase. The others are calls, and none of them comes here: in its phase a call is run.
-fn carried(r: Record, s: Replay, out: &mut [u8]) -> After
+fn carry_out(r: Record, s: Replay, out: &mut [u8]) -> StepDone
     requires { ⌜ Playing s × (refusalRoom ≤ length (now out)) × (kindOf r < 4) ⌝ }
-    ensures { λ w. ⌜ Does (recordStep r s) (w .count) (w .replay) (now (out .entry)) (now (out .exit)) ⌝ }
+    ensures { λ w. ⌜ DoesStep (recordStep r s) (w .count) (w .replay) (now (out .entry)) (now (out .exit)) ⌝ }
 {
     match r {
         Record::Node(parent, weight) => setup::node(parent, weight, s, out),
@@ -85,20 +85,20 @@ pub(crate) fn is_stopped(phase: Phase) -> bool
 }
 
 // What is read at a place, in a replay that has not stopped, if it is no call in its phase.
-pub(crate) fn went(read: Read, s: Replay, out: &mut [u8]) -> After
+pub(crate) fn follow(read: Read, s: Replay, out: &mut [u8]) -> StepDone
     requires { ⌜ Playing s × (refusalRoom ≤ length (now out)) × (runs (s .phase) read ≡ false) ⌝ }
-    ensures { λ r. ⌜ Does (readStep read s) (r .count) (r .replay) (now (out .entry)) (now (out .exit)) ⌝ }
+    ensures { λ r. ⌜ DoesStep (readStep read s) (r .count) (r .replay) (now (out .entry)) (now (out .exit)) ⌝ }
 {
     match read {
         Read::Found(r, _) => {
             let phase = s.phase;
             if in_phase(phase, r) {
-                carried(r, s, out)
+                carry_out(r, s, out)
             } else {
                 stopped(Refusal::WrongPhase, s, out)
             }
         }
-        Read::End => After {
+        Read::End => StepDone {
             count: 0,
             replay: s,
         },
@@ -134,7 +134,7 @@ pub fn step(mut s: Replay, trace: &[u8], at: usize, out: &mut [u8]) -> Stepped
             replay: s,
         };
     }
-    let after = went(read, s, out);
+    let after = follow(read, s, out);
     let replay = after.replay;
     Stepped {
         printed: Printed::Bytes(after.count),

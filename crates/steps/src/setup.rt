@@ -5,8 +5,8 @@ ghost use lib.ListN.{length};
 ghost use Rattle.rules.specs.Numbers.{refusalRoom};
 ghost use Rattle.rules.specs.Replay.{grown as grownOf, recordStep};
 ghost use Rattle.rules.specs.Invariant.{Playing};
-ghost use Rattle.steps.specs.Went.{Does};
-use crate::record::After;
+ghost use Rattle.steps.specs.OneStep.{DoesStep};
+use crate::record::StepDone;
 use crate::record::stopped;
 use rules::cost::Rates;
 use rules::refusals::Pricing;
@@ -33,9 +33,9 @@ fn grown(mut tree: Tree, parent: u8, weight: u16) -> Tree
 }
 
 // "In a trace a node record is checked for its own faults": those that start would find in the tree so far.
-pub(crate) fn node(parent: u8, weight: u16, mut s: Replay, out: &mut [u8]) -> After
+pub(crate) fn node(parent: u8, weight: u16, mut s: Replay, out: &mut [u8]) -> StepDone
     requires { ⌜ Playing s × (refusalRoom ≤ length (now out)) ⌝ }
-    ensures { λ r. ⌜ Does (recordStep (Record.Node parent weight) s) (r .count) (r .replay) (now (out .entry)) (now (out .exit)) ⌝ }
+    ensures { λ r. ⌜ DoesStep (recordStep (Record.Node parent weight) s) (r .count) (r .replay) (now (out .entry)) (now (out .exit)) ⌝ }
 {
     let tree = s.tree;
     if NODES_MOST <= tree.count {
@@ -47,22 +47,22 @@ pub(crate) fn node(parent: u8, weight: u16, mut s: Replay, out: &mut [u8]) -> Af
         return stopped(Refusal::BadTree(found), s, out);
     }
     s.tree = next;
-    After {
+    StepDone {
         count: 0,
         replay: s,
     }
 }
 
-pub(crate) fn model(rates: Rates, s: Replay, out: &mut [u8]) -> After
+pub(crate) fn model(rates: Rates, s: Replay, out: &mut [u8]) -> StepDone
     requires { ⌜ refusalRoom ≤ length (now out) ⌝ }
-    ensures { λ r. ⌜ Does (recordStep (Record.Model rates) s) (r .count) (r .replay) (now (out .entry)) (now (out .exit)) ⌝ }
+    ensures { λ r. ⌜ DoesStep (recordStep (Record.Model rates) s) (r .count) (r .replay) (now (out .entry)) (now (out .exit)) ⌝ }
 {
     match cost::price(rates) {
         Pricing::Refused(x) => stopped(x, s, out),
         Pricing::Priced(_) => {
             let tree = s.tree;
             let state = s.state;
-            After {
+            StepDone {
                 count: 0,
                 replay: Replay {
                     phase: Phase::Priced,
@@ -75,9 +75,9 @@ pub(crate) fn model(rates: Rates, s: Replay, out: &mut [u8]) -> After
     }
 }
 
-pub(crate) fn start(time: u64, s: Replay, out: &mut [u8]) -> After
+pub(crate) fn start(time: u64, s: Replay, out: &mut [u8]) -> StepDone
     requires { ⌜ refusalRoom ≤ length (now out) ⌝ }
-    ensures { λ r. ⌜ Does (recordStep (Record.Start time) s) (r .count) (r .replay) (now (out .entry)) (now (out .exit)) ⌝ }
+    ensures { λ r. ⌜ DoesStep (recordStep (Record.Start time) s) (r .count) (r .replay) (now (out .entry)) (now (out .exit)) ⌝ }
 {
     let tree = s.tree;
     let rates = s.rates;
@@ -87,7 +87,7 @@ pub(crate) fn start(time: u64, s: Replay, out: &mut [u8]) -> After
         Verdict::Refused(x) => stopped(x, s, out),
         Verdict::Accepted => {
             let state = begun.state;
-            After {
+            StepDone {
                 count: 0,
                 replay: Replay {
                     phase: Phase::Running,

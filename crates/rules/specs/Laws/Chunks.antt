@@ -47,23 +47,23 @@ end-steps s = go (isStopped (s .phase))
     go false = refl
 
 -- what a step leads to: a record takes a byte at least, and where none can be read the replay stops
-pub data After (trace : List ℕ) (place : ℕ) (s : Replay) : Type 0 where
-  goes-on : place < nextAt trace place → nextAt trace place ≤ length trace → After trace place s
-  stops : isStopped (stepAt trace place s .replay .phase) ≡ true → After trace place s
-  ends : readAt trace place ≡ End → After trace place s
+pub data AfterStep (trace : List ℕ) (place : ℕ) (s : Replay) : Type 0 where
+  goes-on : place < nextAt trace place → nextAt trace place ≤ length trace → AfterStep trace place s
+  stops : isStopped (stepAt trace place s .replay .phase) ≡ true → AfterStep trace place s
+  ends : readAt trace place ≡ End → AfterStep trace place s
 
-pub after-a-step : (trace : List ℕ) (place : ℕ) (s : Replay) → After trace place s
+pub after-a-step : (trace : List ℕ) (place : ℕ) (s : Replay) → AfterStep trace place s
 unfolding readStep behind
 after-a-step trace place s = by-phase (isStopped (s .phase)) refl
   where
-    by-read : isStopped (s .phase) ≡ false → (read : Read) → readAt trace place ≡ read → After trace place s
+    by-read : isStopped (s .phase) ≡ false → (read : Read) → readAt trace place ≡ read → AfterStep trace place s
     by-read g (Found r next) e =
         let f = found-only-whole trace place r next e in
         goes-on (rw e (omega (arith, f .to))) (rw e (omega (arith, f .to, f .inside)))
     by-read g End e = ends e
     by-read g (Unread x) e = stops (rw (e, going-steps (Unread x) s g))
 
-    by-phase : (b : Bool) → isStopped (s .phase) ≡ b → After trace place s
+    by-phase : (b : Bool) → isStopped (s .phase) ≡ b → AfterStep trace place s
     by-phase true e = stops (rw (stopped-steps (readAt trace place) s e) e)
     by-phase false e = by-read e (readAt trace place) refl
 
@@ -93,7 +93,7 @@ on-or-silent : {P : Type 0} (trace : List ℕ) (place : ℕ) (s : Replay)
     → P
 on-or-silent {P} trace place s on silence = go (after-a-step trace place s)
   where
-    go : After trace place s → P
+    go : AfterStep trace place s → P
     go (goes-on a b) = on a b
     go (stops e) = silence (λ f. stopped-is-silent f trace _ _ e)
     go (ends e) = silence (λ f. rw (e, end-steps s) (end-is-silent f trace place s e))
@@ -238,7 +238,7 @@ pub suffices-on : (here : List ℕ) (f place : ℕ) (s : Replay) → Suffices f 
 suffices-on here f place s (inl stopped) = inl (rw (stopped-steps (readAt here place) s stopped) stopped)
 suffices-on here f place s (inr turns) = go (after-a-step here place s)
   where
-    go : After here place s → Suffices f here (nextAt here place) (stepAt here place s .replay)
+    go : AfterStep here place s → Suffices f here (nextAt here place) (stepAt here place s .replay)
     go (goes-on a b) = inr (turns .0, omega (arith, turns .1))
     go (stops d) = inl d
     go (ends d) = inr (turns .0, rw d (turns .1))
@@ -250,7 +250,7 @@ module _ (last : Bool) (here : List ℕ) where
   still-suffices f room place s e (inl stopped) = absurd (true-not-false stopped (moves-when last (readAt here place) room s e .0))
   still-suffices f room place s e (inr turns) = go (after-a-step here place s)
     where
-      go : After here place s → Suffices f here (nextAt here place) (stepAt here place s .replay)
+      go : AfterStep here place s → Suffices f here (nextAt here place) (stepAt here place s .replay)
       go (goes-on a b) = inr (omega (arith, turns .1), omega (arith, turns .1))
       go (stops d) = inl d
       go (ends d) = absurd (true-not-false (ap isEnd d) (moves-when last (readAt here place) room s e .2))

@@ -1,4 +1,4 @@
--- `steps::chunk::feed` meets its contract: each turn of the loop is a turn of the chunk's part.
+-- `steps::chunk::feed` meets its contract: each step of the loop is a step of the chunk's part.
 -- Assumes nothing.
 use mathlib.Core.Path.{_≡_, refl, sym, _∙_}
 use mathlib.Core.Bool.{Bool, true, false}
@@ -11,7 +11,7 @@ use denote.Ref.{now}
 use Rattle.rules.specs.Replay.{readStep}
 use Rattle.rules.specs.Chunks.{halts, runFrom}
 use Rattle.rules.specs.Laws.Buffers.{stands-left, stands-kept, stands-fits}
-use Rattle.steps.proofs.Feeding.{Feeding, left, begun, asks-little, turn, falls, run-turn, run-falls, feeds}
+use Rattle.steps.proofs.Feeding.{Feeding, left, begun, asks-little, steps-on, falls, run-turn, run-falls, feeds}
 use Rattle.steps.proofs.Records.{no-run}
 use Rattle.steps.proofs.chunk.feed.Statement.{statement}
 use Rattle.steps.proofs.chunk.feed.Tie as tie
@@ -93,17 +93,17 @@ loop-again c =
     run-turn (tested .before .before .loop .inv) (goes-at tested) (called .runs .ensures) (ran .before .before .if2 .taken) _ (ran .run .kept .1 .1 .1 .1 .0) (ran .run .ensures)
     (c .read-from2 .ensures .0)
 
-sub-went : tie.Need-sub-went Inv-loop μ-loop
-sub-went c = stands-left (c .before .before .before .before .loop .inv .front)
+sub-follow : tie.Need-sub-follow Inv-loop μ-loop
+sub-follow c = stands-left (c .before .before .before .before .loop .inv .front)
 
-part-went-start : tie.Need-part-went-start Inv-loop μ-loop
-part-went-start c = stands-left (c .before .before .before .before .loop .inv .front)
+part-follow-start : tie.Need-part-follow-start Inv-loop μ-loop
+part-follow-start c = stands-left (c .before .before .before .before .loop .inv .front)
 
-part-went-end : tie.Need-part-went-end Inv-loop μ-loop
-part-went-end c = search needs
+part-follow-end : tie.Need-part-follow-end Inv-loop μ-loop
+part-follow-end c = search needs
 
-went-requires : tie.Need-went-requires Inv-loop μ-loop
-went-requires c κs =
+follow-requires : tie.Need-follow-requires Inv-loop μ-loop
+follow-requires c κs =
     let called = c .before .before in
     let tested = called .before in
     let head = tested .before .before in
@@ -115,7 +115,7 @@ add-count-2 c =
     let gone = c .before .before .before in
     let head = gone .before .before .before .before .before .before in
     let start = head .before .before .before .before in
-    let within = stands-fits (head .loop .inv .front) (readStep _ _ .bytes) _ _ (gone .went .ensures .0) (gone .went .kept .1 .1 .0) in
+    let within = stands-fits (head .loop .inv .front) (readStep _ _ .bytes) _ _ (gone .follow .ensures .0) (gone .follow .kept .1 .1 .0) in
     omega (arith, within, start .good .1 .1 .1 .1 .0 .0)
 
 next-place-requires : tie.Need-next-place-requires Inv-loop μ-loop
@@ -128,13 +128,13 @@ loop-less-2 : tie.Need-loop-less-2 Inv-loop μ-loop
 loop-less-2 c =
     let gone = c .before .before .before .before .before .before in
     let tested = gone .before .before .before .before in
-    falls (tested .before .before .loop .inv) (goes-at tested) (gone .went .kept .1 .1 .0) (gone .went .ensures) (c .before .before .next-place .ensures)
+    falls (tested .before .before .loop .inv) (goes-at tested) (gone .follow .kept .1 .1 .0) (gone .follow .ensures) (c .before .before .next-place .ensures)
 
 loop-again-2 : tie.Need-loop-again-2 Inv-loop μ-loop
 loop-again-2 c =
     let gone = c .before .before .before .before .before .before in
     let tested = gone .before .before .before .before in
-    turn (tested .before .before .loop .inv) (goes-at tested) (gone .went .kept .1 .1 .0) (gone .went .ensures) (c .before .before .next-place .ensures)
+    steps-on (tested .before .before .loop .inv) (goes-at tested) (gone .follow .kept .1 .1 .0) (gone .follow .ensures) (c .before .before .next-place .ensures)
     (c .read-from3 .ensures .0)
 
 pause-of-requires : tie.Need-pause-of-requires Inv-loop μ-loop
@@ -167,10 +167,10 @@ feed-spec =
     read-from-requires-2
     loop-less
     loop-again
-    sub-went
-    part-went-start
-    part-went-end
-    went-requires
+    sub-follow
+    part-follow-start
+    part-follow-end
+    follow-requires
     add-count-2
     next-place-requires
     read-from-requires-3

@@ -45,8 +45,8 @@ returns-3 c =
     (one-call (now (a .trace)) (a .at) (a .s) (now (a .out)) (called .before .read-from .ensures .0) (called .runs .ensures) (ran .before .before .if3 .taken) refl
     (tested .before .if1 .left) (ran .run .ensures))
 
-went-requires : tie.Need-went-requires
-went-requires c κs =
+follow-requires : tie.Need-follow-requires
+follow-requires c κs =
     let called = c .before .before in
     let tested = called .before .before .before in
     let start = tested .before .before .before .before in
@@ -63,7 +63,7 @@ returns-4 c =
     let tested = going .before in
     let a = tested .before .before .before .before .args in
     steps-on (readAt (now (a .trace)) (a .at)) (a .s) (now (a .out)) (tested .before .if1 .left) (sym (tested .is-stopped .ensures) ∙ going .if2 .left)
-    (same-read (a .s) (now (a .out)) (called .before .read-from .ensures .0) (gone .went .ensures))
+    (same-read (a .s) (now (a .out)) (called .before .read-from .ensures .0) (gone .follow .ensures))
 
 pub step-spec : {M : Type 1} → statement M
 step-spec =
@@ -77,6 +77,6 @@ step-spec =
     run-requires
     same-length
     returns-3
-    went-requires
+    follow-requires
     same-length-2
     returns-4)

@@ -1,10 +1,10 @@
--- `record::went` meets its contract: 16 and 17 as they were read, then 18, then what the record does.
+-- `record::follow` meets its contract: 16 and 17 as they were read, then 18, then what the record does.
 -- Assumes nothing.
 use borrow.Author.Needs.{needs}
 use denote.Ref.{now}
 use Rattle.steps.proofs.Records.{same-step, no-bytes, read-in-phase, read-wrong-phase, read-end, read-refused, setup-only}
-use Rattle.steps.proofs.record.went.Statement.{statement}
-use Rattle.steps.proofs.record.went.Tie as tie
+use Rattle.steps.proofs.record.follow.Statement.{statement}
+use Rattle.steps.proofs.record.follow.Tie as tie
 
 enum-known-read : tie.Need-enum-known-read
 enum-known-read c = search needs
@@ -12,8 +12,8 @@ enum-known-read c = search needs
 in-phase-requires : tie.Need-in-phase-requires
 in-phase-requires c κs = search needs
 
-carried-requires : tie.Need-carried-requires
-carried-requires c κs =
+carry-out-requires : tie.Need-carry-out-requires
+carry-out-requires c κs =
     let tested = c .before .before in
     let known = tested .before .before in
     let start = known .before .before .before in (
@@ -45,7 +45,7 @@ returns c =
     same-step (now (start .args .out))
     (read-in-phase (known .read .given .1) (start .args .s) (tested .in-phase .ensures)
     (c .before .before .before .before .if1 .taken))
-    (c .before .before .carried .ensures)
+    (c .before .before .carry-out .ensures)
 
 same-length-2 : tie.Need-same-length-2
 same-length-2 c = search needs
@@ -74,13 +74,13 @@ returns-4 c =
     (read-refused (start .args .s) (known .read2 .given .1))
     (c .before .before .stopped2 .ensures)
 
-pub went-spec : {M : Type 1} → statement M
-went-spec =
+pub follow-spec : {M : Type 1} → statement M
+follow-spec =
     tie.close
     (tie.spec
     enum-known-read
     in-phase-requires
-    carried-requires
+    carry-out-requires
     stopped-requires
     enum-told
     enum-known-read-2

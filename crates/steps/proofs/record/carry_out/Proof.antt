@@ -1,4 +1,4 @@
--- `record::carried` meets its contract: what each record's function did is what is done of the record that was found, and no call comes here.
+-- `record::carry_out` meets its contract: what each record's function did is what is done of the record that was found, and no call comes here.
 -- Assumes nothing.
 use mathlib.Core.Path.{_≡_}
 use mathlib.Core.List.{List}
@@ -8,14 +8,14 @@ use denote.Ref.{now}
 use Rattle.rules.specs.Replay.{recordStep}
 use Rattle.rules.specs.declared.trace.Record.{Record}
 use Rattle.rules.specs.declared.replay.Replay.{Replay}
-use Rattle.steps.specs.Went.{Does}
+use Rattle.steps.specs.OneStep.{DoesStep}
 use Rattle.steps.proofs.Records.{no-call}
-use Rattle.steps.proofs.record.carried.Statement.{statement}
-use Rattle.steps.proofs.record.carried.Tie as tie
+use Rattle.steps.proofs.record.carry_out.Statement.{statement}
+use Rattle.steps.proofs.record.carry_out.Tie as tie
 
-carried-as : {r q : Record} (s : Replay) {count : ℕ} {after : Replay} (o₀ : List ℕ) {o : List ℕ}
-    → r ≡ q → Does (recordStep q s) count after o₀ o → Does (recordStep r s) count after o₀ o
-carried-as s o₀ e d = rw e d
+carry-out-as : {r q : Record} (s : Replay) {count : ℕ} {after : Replay} (o₀ : List ℕ) {o : List ℕ}
+    → r ≡ q → DoesStep (recordStep q s) count after o₀ o → DoesStep (recordStep r s) count after o₀ o
+carry-out-as s o₀ e d = rw e d
 
 enum-known-r : tie.Need-enum-known-r
 enum-known-r c = search needs
@@ -46,7 +46,7 @@ returns c =
     let called = c .before .before in
     let known = called .before .before .before in
     let start = known .before .before .before in
-    carried-as (start .args .s) (now (start .args .out)) (known .r .given .1) (called .node .ensures)
+    carry-out-as (start .args .s) (now (start .args .out)) (known .r .given .1) (called .node .ensures)
 
 same-length-2 : tie.Need-same-length-2
 same-length-2 c = search needs
@@ -56,7 +56,7 @@ returns-2 c =
     let called = c .before .before in
     let known = called .before .before .before in
     let start = known .before .before .before in
-    carried-as (start .args .s) (now (start .args .out)) (known .r2 .given .1) (called .model .ensures)
+    carry-out-as (start .args .s) (now (start .args .out)) (known .r2 .given .1) (called .model .ensures)
 
 same-length-3 : tie.Need-same-length-3
 same-length-3 c = search needs
@@ -66,7 +66,7 @@ returns-3 c =
     let called = c .before .before in
     let known = called .before .before .before in
     let start = known .before .before .before in
-    carried-as (start .args .s) (now (start .args .out)) (known .r3 .given .1) (called .start .ensures)
+    carry-out-as (start .args .s) (now (start .args .out)) (known .r3 .given .1) (called .start .ensures)
 
 same-length-4 : tie.Need-same-length-4
 same-length-4 c = search needs
@@ -77,8 +77,8 @@ returns-4 c =
     let start = arm .before .before in
     absurd (no-call (start .args .r) (start .pre .2) (arm .match .keys4))
 
-pub carried-spec : {M : Type 1} → statement M
-carried-spec =
+pub carry-out-spec : {M : Type 1} → statement M
+carry-out-spec =
     tie.close
     (tie.spec
     enum-known-r

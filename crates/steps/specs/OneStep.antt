@@ -10,8 +10,8 @@ use Rattle.rules.specs.declared.trace.Read.{Read}
 use Rattle.rules.specs.declared.replay.Replay.{Replay}
 use Rattle.rules.specs.declared.replay.Stepped.{Stepped}
 
-abbrev pub Does : Step → ℕ → Replay → List ℕ → List ℕ → Type 0
-Does step count replay o₀ o = Written (step .bytes) count o₀ o × (replay ≡ step .replay)
+abbrev pub DoesStep : Step → ℕ → Replay → List ℕ → List ℕ → Type 0
+DoesStep step count replay o₀ o = Written (step .bytes) count o₀ o × (replay ≡ step .replay)
 
 -- the answer is the rule's, and so is the buffer, which held o₀ and may be of any length
 pub record Steps (read : Read) (s : Replay) (r : Stepped) (o₀ o : List ℕ) : Type 0 where
