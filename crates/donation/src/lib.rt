@@ -11,7 +11,7 @@ use sets::has;
 use sets::lowest;
 
 // What a leaf adds to the sum over a set.
-fn counted(inside: bool, share: u32) -> u64
+fn adds(inside: bool, share: u32) -> u64
     ensures { λ r. ⌜ (r ≡ cond inside share 0) × (r < 2 ^ 32) ⌝ }
 {
     if inside { share as u64 } else { 0 }
@@ -25,7 +25,7 @@ fn sum_over(set: u64, shares: &[u32; 64]) -> u64
     let mut n: usize = 0;
     while n < 63 {
         n += 1;
-        sum += counted(has(set, n), shares[n]);
+        sum += adds(has(set, n), shares[n]);
     }
     sum
 }

@@ -37,14 +37,14 @@ add-n c = search needs
 has-requires : tie.Need-has-requires Inv-loop μ-loop
 has-requires c κs = search needs
 
-mul-counted : tie.Need-mul-counted Inv-loop μ-loop
-mul-counted c = search needs
+mul-adds : tie.Need-mul-adds Inv-loop μ-loop
+mul-adds c = search needs
 
-element-copy-out-counted : tie.Need-element-copy-out-counted Inv-loop μ-loop
-element-copy-out-counted c = search needs
+element-copy-out-adds : tie.Need-element-copy-out-adds Inv-loop μ-loop
+element-copy-out-adds c = search needs
 
-counted-requires : tie.Need-counted-requires Inv-loop μ-loop
-counted-requires c κs = search needs
+adds-requires : tie.Need-adds-requires Inv-loop μ-loop
+adds-requires c κs = search needs
 
 add-sum : tie.Need-add-sum Inv-loop μ-loop
 add-sum c = search needs
@@ -55,8 +55,8 @@ loop-less c = search needs
 loop-again : tie.Need-loop-again Inv-loop μ-loop
 loop-again c =
     let at = c .before .before .before .before in (
-      one-more (at .before .args .set) (at .before .args .shares .now) (at .loop .n) (at .loop .sum) (c .counted .result) (c .before .before .has .result)
-          (at .loop .inv .0) (c .before .before .has .ensures) (c .counted .ensures .0),
+      one-more (at .before .args .set) (at .before .args .shares .now) (at .loop .n) (at .loop .sum) (c .adds .result) (c .before .before .has .result)
+          (at .loop .inv .0) (c .before .before .has .ensures) (c .adds .ensures .0),
       omega arith,
       omega arith,
     )
@@ -76,9 +76,9 @@ sum-over-spec =
     loop-holds
     add-n
     has-requires
-    mul-counted
-    element-copy-out-counted
-    counted-requires
+    mul-adds
+    element-copy-out-adds
+    adds-requires
     add-sum
     loop-less
     loop-again
