@@ -33,6 +33,10 @@ waiting s chunk = take (s .filled) chunk
 abbrev pub Ended : End → Standing → Standing → Type 0
 Ended end s r = (r .replay ≡ s .replay) × (r .filled ≡ s .filled) × (r .put ≡ s .put) × (r .end ≡ end) × (r .going ≡ false)
 
+-- ---- a run ended well
+abbrev pub Well : End → Type 0
+Well end = end ≡ EndOver
+
 -- ---- the steps of a turn
 -- what it replays, with so much room for lines
 abbrev pub partOf : Standing → List ℕ → ℕ → Part

@@ -1,6 +1,13 @@
 // What goes to standard error: one line for what went wrong, which says what to do about it, and on a terminal how far the
 // replay has come, in one place that is left empty again.
 use crate::descriptor::write;
+use libc::EACCES;
+use libc::EBADF;
+use libc::EISDIR;
+use libc::ELOOP;
+use libc::ENAMETOOLONG;
+use libc::ENOENT;
+use libc::ENOTDIR;
 use libc::STDERR_FILENO;
 use libc::STDOUT_FILENO;
 
@@ -10,9 +17,15 @@ fn say(text: &[u8]) {
     write(STDERR_FILENO, text);
 }
 
-// The end of such a line: what to do, and why the last call failed.
+// The end of such a line: what to do, where that is known, and why the last call failed.
 fn unread() {
-    os::fail(b" (name a trace file, or none to read standard input)");
+    match os::errno() {
+        ENOENT | ENOTDIR | EISDIR | ENAMETOOLONG | ELOOP | EBADF => os::fail(
+            b" (name a trace file, or none to read standard input)",
+        ),
+        EACCES => os::fail(b" (make it readable)"),
+        _ => os::fail(b""),
+    }
 }
 
 pub(crate) fn too_many() {
@@ -59,6 +72,13 @@ pub(crate) fn file_unread(path: &mut [u8]) {
     say(path);
     say(b"'");
     unread();
+}
+
+// For who started it with no file and wonders what it does.
+pub(crate) fn waits() {
+    say(
+        b"replay: waits for a trace on standard input: name a file to replay that one, or end the input by Ctrl-D\n",
+    );
 }
 
 // Progress is for who waits at a terminal and sees no lines come.

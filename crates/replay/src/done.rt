@@ -1,0 +1,35 @@
+// That a run ended well, for who started the program. The language gives a program no exit status, so who wants one asks for a
+// mark by the first argument, and takes a run that leaves none for one that failed.
+ghost use Rattle.replay.specs.Turns.{Well};
+use crate::descriptor::write;
+use crate::run::End;
+
+// Where the mark goes. Nothing is written there unasked, since it may be any file that the program was handed.
+const REPORT: i32 = 3;
+
+fn same(a: &[u8], b: &[u8]) -> bool {
+    if a.len() != b.len() {
+        return false;
+    }
+    let mut i: usize = 0;
+    while i < a.len() {
+        if a[i] != b[i] {
+            return false;
+        }
+        i += 1;
+    }
+    true
+}
+
+pub(crate) fn is_asked() -> bool {
+    let mut word = io::buffer();
+    let length = os::arg(1, &mut word);
+    same(&word[..length], b"--report")
+}
+
+// Only of a run that ended well.
+pub(crate) fn tell(end: End)
+    requires { ⌜ Well end ⌝ }
+{
+    write(REPORT, b"done\n");
+}
