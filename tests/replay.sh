@@ -1,12 +1,15 @@
 #!/usr/bin/env bash
 # The program's manners: tests/replay.sh BINARY [SECOND]. Traces in pieces, cut, changed and long, readers that are slow or
-# gone, calls that fail, and what it says then. With SECOND, the second program, what it prints is compared as well.
+# gone, calls that fail, and what it says then; and those of ./replay, which runs it: options, exit status, signals, the build.
+# Where BINARY is ./replay, its program is taken. With SECOND, the second program, what it prints is compared as well.
 # The last line is 'N passed, M failed'.
 set -uo pipefail
 export LC_ALL=C
 here=$(cd "$(dirname "$0")" && pwd -P)
-whole=$here/../crates/replay/data/whole-case.trace
+top=$(dirname "$here")
+whole=$top/crates/replay/data/whole-case.trace
 binary=$(readlink -f "${1:?usage: tests/replay.sh BINARY [SECOND]}")
+[ "$binary" != "$top/replay" ] || binary=$top/target/bin/replay
 second=${2:+$(readlink -f "$2")}
 source "$here/../agreement/common"
 work=$(mktemp -d) || exit 1
@@ -17,6 +20,11 @@ passed=0
 failed=0
 limit=30
 memory=32768 # KiB of addresses: what it may take, however long the trace is
+# An emulator takes memory for itself, and time.
+if [ "$(uname -m)" != x86_64 ]; then
+    limit=600
+    memory=262144
+fi
 hint='(name a trace file, or none to read standard input)'
 full='replay: cannot write standard output (make room there, or send it elsewhere)'
 
@@ -27,15 +35,42 @@ is() { # NAME TEST..
 }
 
 # So many checks are due, without those that cannot be made here: CHECKS REASON.
-due=96
+due=207
 skip() {
     due=$((due - $1))
     printf 'not run: %s\n' "$2"
 }
 
+# Makes a folder as a clone has it, with ./replay: FOLDER.
+clone() {
+    mkdir -p "$1/tools" "$1/crates/a/src" || exit 1
+    cp "$top/replay" "$1/replay" && cp "$top/tools/program" "$1/tools/program" || exit 1
+    printf '# one line for each\na:\nb: a io # and no more\nother: a\nreplay: a b os\n' >"$1/crates.txt"
+    : >"$1/crates/a/src/lib.rt"
+}
+
+# One in which the program is built, and the words that run it alone.
+clone home
+mkdir -p home/target/bin home/target/stamp
+cp "$binary" home/target/bin/replay || exit 1
+: >home/target/stamp/replay
+wrapper=$work/home/replay
+mapfile -d '' -t tested < <(
+    crate=replay
+    source home/tools/program
+    find_runner
+    printf '%s\0' "${runner[@]}"
+)
+
 # Runs the program on its arguments within the limits; what it wrote is in out and err, and how it ended in status.
 run() {
-    (ulimit -v "$memory" && exec timeout "$limit" "$binary" "$@") >out 2>err
+    (ulimit -v "$memory" && exec timeout "$limit" "${tested[@]}" "$@") >out 2>err
+    status=$?
+}
+
+# Runs ./replay likewise.
+replay() {
+    timeout "$limit" "$wrapper" "$@" >out 2>err
     status=$?
 }
 
@@ -47,6 +82,9 @@ said() { [ "$status" -eq 0 ] && [ "$(wc -l <err)" -eq 1 ] && [ "$(cat err)" = "$
 
 # It ended, wrote nothing, and said the one line.
 only_said() { [ ! -s out ] && said "$1"; }
+
+# It failed, wrote nothing, and said one line.
+failed_saying() { [ "$status" -eq 1 ] && [ ! -s out ] && [ "$(wc -l <err)" -eq 1 ] && [ "$(cat err)" = "$1" ]; }
 
 # It ended, said nothing, and its last line is one after which the replay stops.
 stopped() { [ "$status" -eq 0 ] && [ ! -s err ] && tail -n 1 out | grep -qE '^R [0-9]+$'; }
@@ -108,10 +146,10 @@ for one in 'short.18 R 18' 'short.1 R 1' 'short.16 R 16' 'short.15 R 15' 'short.
     is "one short line, ${one#* }, from a file to a file" wrote "$trace.lines"
     run < <(cat "$trace")
     is "one short line, ${one#* }, by a pipe to a file" wrote "$trace.lines"
-    timeout "$limit" "$binary" "$trace" 2>err | cat >out
+    timeout "$limit" "${tested[@]}" "$trace" 2>err | cat >out
     status=${PIPESTATUS[0]}
     is "one short line, ${one#* }, from a file to a pipe" wrote "$trace.lines"
-    cat "$trace" | timeout "$limit" "$binary" 2>err | cat >out
+    cat "$trace" | timeout "$limit" "${tested[@]}" 2>err | cat >out
     status=${PIPESTATUS[1]}
     is "one short line, ${one#* }, by a pipe to a pipe" wrote "$trace.lines"
 done
@@ -144,7 +182,7 @@ for size_of_lines in 6551 6552 6553 65535 65536 65537; do
     is "the lines are $size_of_lines bytes" [ "$(wc -c <sized.lines)" -eq "$size_of_lines" ]
     run sized
     is "lines of $size_of_lines bytes, to a file" wrote sized.lines
-    timeout "$limit" "$binary" <sized 2>err | cat >out
+    timeout "$limit" "${tested[@]}" <sized 2>err | cat >out
     status=${PIPESTATUS[0]}
     is "lines of $size_of_lines bytes, to a pipe" wrote sized.lines
 done
@@ -158,7 +196,7 @@ for block in 7 4096 65535 65536 65537; do
 done
 
 mkfifo pipe
-(timeout "$limit" "$binary" <pipe >out 2>err) &
+(timeout "$limit" "${tested[@]}" <pipe >out 2>err) &
 exec 3>pipe
 head -c 85 whole >&3
 for ((i = 0; i < 100; i++)); do [ -s out ] && break; sleep 0.05; done
@@ -216,11 +254,11 @@ is "an endless input is read no further" stopped
 
 # ---- readers
 slowly() { sleep 1; while IFS= read -r line; do printf '%s\n' "$line"; done; }
-timeout "$limit" "$binary" many 2>err | slowly >out
+timeout "$limit" "${tested[@]}" many 2>err | slowly >out
 status=${PIPESTATUS[0]}
 is "a slow reader gets every line" wrote many.lines
 # where the system ends no program for it, a write to nobody is one that fails
-timeout "$limit" "$binary" long 2>err | head -n 1 >out
+timeout "$limit" "${tested[@]}" long 2>err | head -n 1 >out
 is "a reader that leaves after a line" [ "$(cat out)" = "D 0" ]
 is "it ends quietly, or says so" [ "$(cat err)" = "" -o "$(cat err)" = "$full: Broken pipe" ]
 
@@ -241,70 +279,346 @@ run whole '' ''
 is "three names" only_said "replay: too many arguments: name one trace file, or none to read standard input"
 run <&-
 is "standard input is closed" only_said "replay: cannot read standard input $hint: Bad file descriptor"
+run <sub
+is "standard input is a directory" only_said "replay: cannot read standard input $hint: Is a directory"
 cp whole secret
 chmod 000 secret
 nobody='setpriv --reuid=65534 --regid=65534 --clear-groups'
+locked="replay: cannot read 'secret' (make it readable): Permission denied"
+chmod -R go+rX . && chmod 000 secret
 if [ "$(id -u)" -ne 0 ]; then
     run secret
-    is "a file that may not be read" only_said "replay: cannot read 'secret' $hint: Permission denied"
-elif cp "$binary" runner 2>err && chmod 755 . runner && $nobody ./runner nothing 2>err && [ ! -s err ]; then
-    $nobody timeout "$limit" ./runner secret >out 2>err
+    is "a file that may not be read" only_said "$locked"
+elif $nobody "${tested[@]}" nothing 2>err && [ ! -s err ]; then
+    $nobody timeout "$limit" "${tested[@]}" secret >out 2>err
     status=$?
-    is "a file that may not be read" only_said "replay: cannot read 'secret' $hint: Permission denied"
+    is "a file that may not be read" only_said "$locked"
 else
     skip 1 "a file that may not be read: root may read any"
 fi
-timeout "$limit" "$binary" whole >/dev/full 2>err
+timeout "$limit" "${tested[@]}" whole >/dev/full 2>err
 status=$?
 is "a full device" said "$full: No space left on device"
-timeout "$limit" "$binary" nothing >/dev/full 2>err
+timeout "$limit" "${tested[@]}" nothing >/dev/full 2>err
 status=$?
 is "a full device that nothing is written to" [ ! -s err ]
-timeout "$limit" "$binary" whole >&- 2>err
+timeout "$limit" "${tested[@]}" whole >&- 2>err
 status=$?
 is "standard output is closed" said "$full: Bad file descriptor"
 
-# ---- calls that are cut short or broken off, and settings that a shell cannot make
-if [ "$(uname -m)" = x86_64 ] && [ "$(head -c 4 "$binary" | tail -c 3)" = ELF ] && command -v rustc >which 2>&1; then
-    rustc -O --edition 2021 --crate-type cdylib "$here/faults.rs" -o faults.so || exit 1
+# ---- the mark of a run that ended well: on descriptor 3 where it is asked for, and nowhere unasked
+marked() { [ "$status" -eq 0 ] && [ "$(cat mark)" = "$1" ]; }
+run whole 3>mark
+is "nothing is marked unasked" marked ''
+run --report whole 3>mark
+is "a run to the end is marked" marked 'done'
+run --report short.16 3>mark
+is "and one to its stop" marked 'done'
+run --report 3>mark <nothing
+is "and one of nothing" marked 'done'
+run --report - 3>mark <whole
+is "and one of standard input" marked 'done'
+run --report missing 3>mark
+is "a file that is missing is not" marked ''
+run --report whole whole 3>mark
+is "nor are two files" marked ''
+run --report 3>mark <&-
+is "nor is input that cannot be read" marked ''
+timeout "$limit" "${tested[@]}" --report many 3>mark >/dev/full 2>err
+status=$?
+is "nor lines that cannot be written" marked ''
+run --report whole 3>&-
+is "and where there is no descriptor 3, nothing is said" wrote whole.lines
+
+# ---- ./replay: words
+replay whole
+is "./replay: a file" wrote whole.lines
+replay <whole
+is "./replay: standard input" wrote whole.lines
+replay - <whole
+is "./replay: standard input by name" wrote whole.lines
+replay -- <whole
+is "./replay: no file after the options" wrote whole.lines
+replay -- - <whole
+is "./replay: standard input by name after the options" wrote whole.lines
+replay - <sub
+is "./replay: it is called so" failed_saying "replay: cannot read standard input $hint: Is a directory"
+for name in -dash --help -- --report 'two words' $'two\nlines' '*' -; do
+    mkdir -p named
+    cp whole "named/$name"
+    (cd named && if [ "$name" = - ]; then replay ./-; else replay -- "$name"; fi && cp out err .. && exit "$status")
+    status=$?
+    is "./replay: a file called '$name'" wrote whole.lines
+    rm -r named
+done
+for option in --help -h; do
+    replay "$option"
+    cp out help
+    is "./replay: $option says how to use it" grep -qx 'usage: ./replay \[FILE\]' help
+    is "./replay: $option says nothing else" wrote help
+done
+replay whole --help
+is "./replay: an option may come last" wrote help
+for word in --nonsense -x --help=no -hh; do
+    replay "$word"
+    is "./replay: there is no $word" failed_saying \
+        "replay: no such option: '$word' (a file of that name comes after --, and ./replay --help says more)"
+done
+"$wrapper" --help >/dev/full 2>err
+is "./replay: help that cannot be written" [ $? -eq 1 ]
+replay whole whole
+is "./replay: two names" failed_saying "replay: too many arguments: name one trace file, or none to read standard input"
+replay $(seq 5000)
+is "./replay: 5,000 names" failed_saying "replay: too many arguments: name one trace file, or none to read standard input"
+
+# ---- ./replay: status
+replay nothing
+is "./replay: nothing to replay is no failure" wrote nothing
+replay short.16
+is "./replay: nor is a trace that stops" wrote short.16.lines
+replay missing
+is "./replay: a missing file" failed_saying "replay: cannot read 'missing' $hint: No such file or directory"
+replay sub
+is "./replay: a directory" failed_saying "replay: cannot read 'sub' $hint: Is a directory"
+replay ''
+is "./replay: an empty name" failed_saying "replay: cannot read '' $hint: No such file or directory"
+replay "$(printf '%5000s' x)"
+is "./replay: a name that is too long" failed_saying "replay: cannot read its argument $hint: File name too long"
+replay <&-
+is "./replay: standard input is closed" failed_saying "replay: cannot read standard input $hint: Bad file descriptor"
+: >out
+"$wrapper" whole >/dev/full 2>err
+status=$?
+is "./replay: a full device" failed_saying "$full: No space left on device"
+"$wrapper" whole >&- 2>err
+status=$?
+is "./replay: standard output is closed" failed_saying "$full: Bad file descriptor"
+(trap '' PIPE; "$wrapper" long 2>err; echo $? >ended) | head -n 1 >out
+is "./replay: a reader that is gone, where that ends no program" [ "$(cat ended) $(cat err)" = "1 $full: Broken pipe" ]
+
+# ---- ./replay: descriptors
+"$wrapper" long 2>err | head -n 1 >out
+status=${PIPESTATUS[0]}
+yes | head -n 1 >yes.out
+ends=(1 141) # where the system ends no program for it, the write fails
+[ "${PIPESTATUS[0]}" -ne 141 ] || ends=(141)
+is "./replay: a reader that leaves ends it as any program" grep -qxF "$status" <(printf '%s\n' "${ends[@]}")
+is "./replay: and it had its line" [ "$(cat out)" = "D 0" ]
+"$wrapper" many 2>err | slowly >out
+status=${PIPESTATUS[0]}
+is "./replay: a slow reader gets every line" wrote many.lines
+replay < <(cat long)
+is "./replay: 3 MB by a pipe" wrote long.lines
+"$wrapper" whole 3>inherited >out 2>err
+status=$?
+is "./replay: the caller's own descriptor 3" wrote whole.lines
+is "./replay: is let alone" [ ! -s inherited ]
+"$wrapper" whole <&- 2>&- >out
+status=$?
+: >err
+is "./replay: input and error are closed" wrote whole.lines
+"$wrapper" missing <&- >&- 2>&-
+is "./replay: all three are" [ $? -eq 1 ]
+(ulimit -f 0 && exec "$wrapper" whole) 2>err | cat >out
+status=${PIPESTATUS[0]}
+is "./replay: no file has to be written for it" wrote whole.lines
+
+# ---- ./replay: where it is
+ln -s home/replay link
+ln -s "$work/link" sub/link
+(cd sub && ../link ../whole) >out 2>err
+status=$?
+is "./replay: by a link" wrote whole.lines
+(cd sub && PATH=$work/sub:$PATH link ../whole) >out 2>err
+status=$?
+is "./replay: by a link to a link on PATH" wrote whole.lines
+
+# ---- ./replay: signals. What it writes to ends when nobody holds it any more.
+mkfifo fed given
+for signal in TERM HUP; do
+    timeout "$limit" cat <given >out &
+    reader=$!
+    "$wrapper" <fed >given 2>err &
+    waited=$!
+    exec 4>fed
+    head -c 85 whole >&4
+    for ((i = 0; i < 100; i++)); do [ -s out ] && break; sleep 0.05; done
+    is "./replay: it waits for more" [ "$(cat out)" = "W 7" ]
+    kill -s "$signal" "$waited"
+    wait "$waited" 2>wait.log
+    is "./replay: $signal ends it" [ $? -eq $((128 + $(kill -l "$signal"))) ]
+    wait "$reader"
+    is "./replay: and the program, after $signal" [ $? -eq 0 ]
+    exec 4>&-
+done
+
+# ---- ./replay: the build, by an rt that proves nothing. As the true one it starts what does not hear Ctrl-C, leaves what it
+# has made so far where it is ended, and writes a stamp at last.
+mkdir false
+cat >false/rt <<'END'
+#!/bin/sh
+[ "$1" = check ] || exec "$TRUE_RT" "$@"
+echo "$*" >>"$WORK/calls"
+mkdir -p target/bin target/stamp
+rm -f target/stamp/replay
+echo 'fn a::b: proved'
+echo 'rt: a proved (1 s)'
+echo 'rt: b proved (unchanged since it was last proved)'
+head -c 1000 "$BINARY" >target/bin/replay
+chmod +x target/bin/replay
+if [ "$(cat "$WORK/does")" = waits ]; then
+    sleep 1000 >"$WORK/given" &
+    wait
+fi
+if [ "$(cat "$WORK/does")" = fails ]; then
+    echo 'rt: replay NOT PROVED (exit 1, 0 s)'
+    exit 1
+fi
+cp "$BINARY" target/bin/replay
+echo 'rt: replay proved (3 s)'
+echo "rt: replay ran, and wrote what its file 'stdout' has (0 s)"
+: >target/stamp/replay
+END
+chmod +x false/rt
+TRUE_RT=$(command -v rt || echo rt)
+export TRUE_RT WORK=$work BINARY=$binary PATH=$work/false:$PATH
+notice='replay: building the program with its proofs, once; this takes some minutes'
+builds() { # DOES: by an rt that does so, from nothing
+    rm -rf new calls
+    clone new
+    wrapper=$work/new/replay
+    echo "$1" >does
+}
+called() { [ "$(wc -l <calls)" -eq "$1" ]; }
+builds well
+replay --help
+is "./replay: help needs no build" [ "$status" -eq 0 -a ! -e calls -a ! -e new/target ]
+replay whole
+is "./replay: the first use builds, and says so in one line" [ "$status" -eq 0 -a "$(cat err)" = "$notice" ]
+is "./replay: and then replays" cmp -s out whole.lines
+is "./replay: what it is called for" [ "$(cat calls)" = "check replay" ]
+replay whole
+is "./replay: the second does not" wrote whole.lines
+is "./replay: so that it is built once" called 1
+touch new/crates/a/src/lib.rt
+replay whole
+is "./replay: a source that is newer is built" called 2
+is "./replay: and replayed by" cmp -s out whole.lines
+rm new/target/replay.built
+replay whole
+is "./replay: what rt built needs no build" wrote whole.lines
+builds fails
+replay whole
+is "./replay: a build that fails" [ "$status" -eq 1 -a ! -s out ]
+is "./replay: it says where to look" \
+    [ "$(cat err)" = "$notice"$'\n'"replay: the program is not proved or not built: $work/new/target/replay.log says why" ]
+is "./replay: and why is there" grep -qxF 'rt: replay NOT PROVED (exit 1, 0 s)' new/target/replay.log
+replay whole
+is "./replay: and it is tried again" called 2
+builds waits
+timeout "$limit" cat <given >held &
+reader=$!
+"$wrapper" whole >out 2>err &
+waited=$!
+for ((i = 0; i < 100; i++)); do grep -qs '^rt: b' new/target/replay.log && break; sleep 0.05; done
+kill -s TERM "$waited"
+wait "$waited" 2>wait.log
+is "./replay: TERM ends a build" [ $? -eq 143 ]
+wait "$reader"
+is "./replay: and the prover" [ $? -eq 0 ]
+echo well >does
+replay whole
+is "./replay: what it left is built again" called 2
+is "./replay: before it is run" cmp -s out whole.lines
+export PATH=${PATH#*:}
+wrapper=$work/home/replay
+
+# ---- settings that a shell cannot make: terminals, and pipes that do not wait
+emptied() { [ "$(tail -c $(($1 + 2)) err | tr ' \r' 's.')" = ".$(printf "%$1s" '' | tr ' ' s)." ]; }
+setting() { # WORDS..
+    timeout "$limit" ./setting "$@" >out 2>err
+    status=$?
+}
+if command -v rustc >which 2>&1; then
     rustc -O --edition 2021 "$here/setting.rs" -o setting || exit 1
+    { sleep 0.3; cat many; } | ./setting nonblocking timeout "$limit" "${tested[@]}" 2>err | { sleep 0.5; cat; } >out
+    status=${PIPESTATUS[1]}
+    is "pipes that do not wait lose nothing" wrote many.lines
+    for watched in "${tested[*]}" "$wrapper"; do
+        read -r -a words <<<"$watched"
+        setting watched "${words[@]}" long
+        is "a terminal is told how much was read" grep -q 'replay: 3 MB read' err
+        is "and nothing of it stays" emptied 24
+        is "the lines are the same" cmp -s out long.lines
+        setting watched "${words[@]}" many
+        is "short work shows nothing" wrote many.lines
+        setting watched "${words[@]}" missing
+        is "an error is one line there too" [ "$(tr -d '\r' <err)" = "replay: cannot read 'missing' $hint: No such file or directory" ]
+    done
+    waits='replay: waits for a trace on standard input: name a file to replay that one, or end the input by Ctrl-D'
+    setting typing "$waits" $'\004' "$wrapper"
+    is "./replay: on a terminal it says that it waits" [ "$(tr -d '\r' <err)" = "$waits" ]
+    is "./replay: and the end of nothing is its end" [ "$status" -eq 0 -a ! -s out ]
+    setting typing "$waits" $'\003' "$wrapper"
+    is "./replay: Ctrl-C ends it and the program" [ "$status" -eq 130 ]
+    setting typing "$waits" $'\003' "$wrapper" whole
+    is "./replay: a file is not waited for" wrote whole.lines
+    export PATH=$work/false:$PATH
+    builds well
+    setting watched "$wrapper" whole
+    for count in 0 1 2 3; do is "./replay: $count of 3 crates are proved" grep -q "replay: building with its proofs: $count of 3 crates" err; done
+    is "./replay: on one line" [ "$(tr -cd '\n' <err | wc -c)" -eq 0 ]
+    is "./replay: of which nothing stays" emptied 70
+    is "./replay: then it replays" [ "$status" -eq 0 -a "$(cat out)" = "$(cat whole.lines)" ]
+    builds waits
+    timeout "$limit" cat <given >held &
+    reader=$!
+    setting typing '2 of 3 crates' $'\003' "$wrapper" whole
+    is "./replay: Ctrl-C ends a build" [ "$status" -eq 130 -a ! -s out ]
+    wait "$reader"
+    is "./replay: and the prover, which does not hear it" [ $? -eq 0 ]
+    is "./replay: nothing of the line stays" emptied 70
+    echo well >does
+    replay whole
+    is "./replay: what it left is built anew" called 2
+    is "./replay: and run then" cmp -s out whole.lines
+else
+    skip 27 "settings that a shell cannot make: they need rustc"
+fi
+
+# ---- calls that are cut short or broken off
+if [ "$(uname -m)" = x86_64 ] && command -v rustc >which 2>&1; then
+    rustc -O --edition 2021 --crate-type cdylib "$here/faults.rs" -o faults.so || exit 1
     faulty() { # FAULTS ARGUMENTS..
         local plan=$1
         shift
-        FAULTS=$plan LD_PRELOAD=$work/faults.so timeout "$limit" "$binary" "$@" >out 2>err
+        FAULTS=$plan LD_PRELOAD=$work/faults.so timeout "$limit" "${tested[@]}" --report "$@" >out 2>err 3>mark
         status=$?
     }
     for plan in short "intr ok" "again ok" "intr again intr again short ok" "again intr short again intr short intr intr again ok"; do
         faulty "$plan" whole
         is "calls that go: $plan" wrote whole.lines
+        is "their mark: $plan" marked 'done'
         faulty "short short short $plan" many
         is "calls that go: three short, $plan, over many lines" wrote many.lines
     done
     faulty short many
     is "every call moves one byte" wrote many.lines
     faulty "ok ok ok ok eio" many
-    is "a read that fails at last" said "replay: cannot read 'many' $hint: Input/output error"
+    is "a read that fails at last" said "replay: cannot read 'many': Input/output error"
     is "after whole lines only" cmp -s out <(head -n "$(wc -l <out)" many.lines)
     is "and some" [ -s out ]
+    is "without a mark" marked ''
     faulty eio whole
-    is "a first read that fails" only_said "replay: cannot read 'whole' $hint: Input/output error"
+    is "a first read that fails" only_said "replay: cannot read 'whole': Input/output error"
+    is "has none" marked ''
     faulty "ok nospc" whole
     is "a write that fails" only_said "$full: No space left on device"
-    { sleep 0.3; cat many; } | ./setting nonblocking timeout "$limit" "$binary" 2>err | { sleep 0.5; cat; } >out
-    status=${PIPESTATUS[1]}
-    is "pipes that do not wait lose nothing" wrote many.lines
-    ./setting watched timeout "$limit" "$binary" long >out 2>err
-    status=$?
-    is "a terminal is told how much was read" grep -q 'replay: 3 MB read' err
-    is "and nothing of it stays" [ "$(tail -c 26 err | tr ' \r' 's.')" = ".ssssssssssssssssssssssss." ]
-    is "the lines are the same" cmp -s out long.lines
-    ./setting watched timeout "$limit" "$binary" many >out 2>err
-    status=$?
-    is "short work shows nothing" wrote many.lines
-    ./setting watched timeout "$limit" "$binary" missing >out 2>err
-    is "an error is one line there too" [ "$(tr -d '\r' <err)" = "replay: cannot read 'missing' $hint: No such file or directory" ]
+    is "nor has it" marked ''
+    faulty "ok nospc ok" whole
+    is "even where the next would go" marked ''
 else
-    skip 22 "calls that fail by a plan, and settings: they need x86-64, the program itself and rustc"
+    skip 25 "calls that fail by a plan: they need x86-64 and rustc"
 fi
 
 close_count "$passed" "$failed" "$due"
