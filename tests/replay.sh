@@ -23,7 +23,7 @@ memory=32768 # KiB of addresses: what it may take, however long the trace is
 # An emulator takes memory for itself, and time.
 if [ "$(uname -m)" != x86_64 ]; then
     limit=600
-    memory=262144
+    memory=524288
 fi
 hint='(name a trace file, or none to read standard input)'
 full='replay: cannot write standard output (make room there, or send it elsewhere)'
@@ -436,7 +436,7 @@ is "./replay: by a link to a link on PATH" wrote whole.lines
 # ---- ./replay: signals. What it writes to ends when nobody holds it any more.
 mkfifo fed given
 for signal in TERM HUP; do
-    timeout "$limit" cat <given >out &
+    timeout "$limit" cat given >out &
     reader=$!
     "$wrapper" <fed >given 2>err &
     waited=$!
@@ -463,13 +463,15 @@ mkdir -p target/bin target/stamp
 rm -f target/stamp/replay
 echo 'fn a::b: proved'
 echo 'rt: a proved (1 s)'
-echo 'rt: b proved (unchanged since it was last proved)'
 head -c 1000 "$BINARY" >target/bin/replay
 chmod +x target/bin/replay
 if [ "$(cat "$WORK/does")" = waits ]; then
-    sleep 1000 >"$WORK/given" &
+    exec 8>"$WORK/given"
+    sleep 1000 &
+    echo 'rt: b proved (2 s)'
     wait
 fi
+echo 'rt: b proved (unchanged since it was last proved)'
 if [ "$(cat "$WORK/does")" = fails ]; then
     echo 'rt: replay NOT PROVED (exit 1, 0 s)'
     exit 1
@@ -516,7 +518,7 @@ is "./replay: and why is there" grep -qxF 'rt: replay NOT PROVED (exit 1, 0 s)' 
 replay whole
 is "./replay: and it is tried again" called 2
 builds waits
-timeout "$limit" cat <given >held &
+timeout "$limit" cat given >held &
 reader=$!
 "$wrapper" whole >out 2>err &
 waited=$!
@@ -571,7 +573,7 @@ if command -v rustc >which 2>&1; then
     is "./replay: of which nothing stays" emptied 70
     is "./replay: then it replays" [ "$status" -eq 0 -a "$(cat out)" = "$(cat whole.lines)" ]
     builds waits
-    timeout "$limit" cat <given >held &
+    timeout "$limit" cat given >held &
     reader=$!
     setting typing '2 of 3 crates' $'\003' "$wrapper" whole
     is "./replay: Ctrl-C ends a build" [ "$status" -eq 130 -a ! -s out ]
