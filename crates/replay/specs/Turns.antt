@@ -33,10 +33,6 @@ waiting s chunk = take (s .filled) chunk
 abbrev pub Ended : End → Standing → Standing → Type 0
 Ended end s r = (r .replay ≡ s .replay) × (r .filled ≡ s .filled) × (r .put ≡ s .put) × (r .end ≡ end) × (r .going ≡ false)
 
--- ---- a run ended well
-abbrev pub Well : End → Type 0
-Well end = end ≡ EndOver
-
 -- ---- the steps of a turn
 -- what it replays, with so much room for lines
 abbrev pub partOf : Standing → List ℕ → ℕ → Part
@@ -74,6 +70,19 @@ pub record Turned (s : Standing) (chunk : List ℕ) (room : ℕ) (r : Standing) 
   pub behind : waiting r after ≡ drop (partOf s chunk room .place) (waiting s chunk) ++ next
   pub ends : r .going ≡ false → r .end ≡ EndOver
       → pauseOf (s .last) (readAt (waiting s chunk) (partOf s chunk room .place)) (r .replay) ≡ Over
+
+-- ---- how a run ended: well, as whoever started it is told, only by a last turn, in which the replay was over
+pub data Last : End → Type 0 where
+  last : {s r : Standing} {chunk after : List ℕ} {room : ℕ} → Turned s chunk room r after → r .going ≡ false → Last (r .end)
+
+abbrev pub Ends : Standing → Type 0
+Ends s = s .going ≡ false → Last (s .end)
+
+abbrev pub Finished : End → Type 0
+Finished end = end ≡ EndOver → Last end
+
+abbrev pub Well : End → Type 0
+Well end = (end ≡ EndOver) × Last end
 
 -- ---- a run: turns with any room, each of which goes on, up to one that ends well. The bytes that are read make up the rest of the trace, of which
 -- none is left once a read said that it is at the end; the lines that are written make up what is printed

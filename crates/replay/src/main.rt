@@ -6,11 +6,15 @@ mod done;
 mod run;
 mod said;
 
+ghost use Rattle.replay.specs.Turns.{Finished};
 use libc::STDIN_FILENO;
 use run::End;
 use run::run;
+use run::unread;
 
-fn of_input() -> End {
+fn of_input() -> End
+    ensures { λ r. ⌜ Finished r ⌝ }
+{
     if libc::isatty(STDIN_FILENO) == 1 {
         said::waits();
     }
@@ -30,12 +34,14 @@ fn is_input(name: &[u8]) -> bool {
     name[0] == b'-'
 }
 
-fn of_file(place: usize) -> End {
+fn of_file(place: usize) -> End
+    ensures { λ r. ⌜ Finished r ⌝ }
+{
     let mut path = io::buffer();
     let length = os::arg(place, &mut path);
     if os::errno() != 0 {
         said::argument_unread();
-        return End::Unread;
+        return unread();
     }
     if is_input(&path[..length]) {
         return of_input();
@@ -43,7 +49,7 @@ fn of_file(place: usize) -> End {
     let fd = os::open_read(&path[..length]);
     if fd < 0 {
         said::file_unread(&mut path[..length]);
-        return End::Unread;
+        return unread();
     }
     let end = run(fd);
     match end {
@@ -55,14 +61,16 @@ fn of_file(place: usize) -> End {
 }
 
 // What the arguments from this place on ask for.
-fn asked(place: usize) -> End {
+fn asked(place: usize) -> End
+    ensures { λ r. ⌜ Finished r ⌝ }
+{
     let words = os::arg_count();
     if words <= place {
         return of_input();
     }
     if words - place > 1 {
         said::too_many();
-        return End::Unread;
+        return unread();
     }
     of_file(place)
 }

@@ -11,7 +11,7 @@ ghost use mathlib.Core.Bool.{true};
 ghost use Prim.Native.Nat.{_≤_};
 ghost use lib.ListN.{length};
 ghost use Rattle.rules.specs.Invariant.{Playing};
-ghost use Rattle.replay.specs.Turns.{Stands, Ended, Replayed, Carried, Onward, Turned};
+ghost use Rattle.replay.specs.Turns.{Stands, Ended, Replayed, Carried, Onward, Turned, Ends, Finished};
 use crate::descriptor::TURNS;
 use crate::descriptor::read;
 use crate::descriptor::write;
@@ -155,7 +155,28 @@ fn turn(s: Standing, fd: i32, watched: bool, chunk: &mut [u8], out: &mut [u8]) -
     onward(pause, after, fd, watched, chunk)
 }
 
-pub(crate) fn run(fd: i32) -> End {
+// How a run that could not read ends.
+pub(crate) fn unread() -> End
+    ensures { λ r. ⌜ Finished r ⌝ }
+{
+    End::Unread
+}
+
+// How one ended that may go on: what it did not come to is unread.
+fn ending(s: Standing) -> End
+    requires { ⌜ Ends s ⌝ }
+    ensures { λ r. ⌜ Finished r ⌝ }
+{
+    if s.going {
+        return unread();
+    }
+    let end = s.end;
+    end
+}
+
+pub(crate) fn run(fd: i32) -> End
+    ensures { λ r. ⌜ Finished r ⌝ }
+{
     let watched = said::is_watched();
     let mut chunk = io::large_buffer();
     let mut out = io::large_buffer();
@@ -176,6 +197,5 @@ pub(crate) fn run(fd: i32) -> End {
     if watched {
         said::no_progress(s.total);
     }
-    let end = s.end;
-    end
+    ending(s)
 }

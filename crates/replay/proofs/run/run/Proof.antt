@@ -1,16 +1,18 @@
 -- `replay::run::run` is safe and ends: the measure is the number of turns that are left, and it stands well from turn to turn.
 -- Assumes nothing.
-use mathlib.Core.Path.{_≡_, sym}
+use mathlib.Core.Path.{_≡_, refl, sym}
 use Prim.Native.Nat.{zero-le}
 use lib.ListN.{length}
 use borrow.Author.Needs.{needs}
-use Rattle.replay.specs.Turns.{Stands}
+use Rattle.rules.specs.Laws.Bools.{true-not-false}
+use Rattle.replay.specs.Turns.{Stands, Ends}
+use Rattle.replay.specs.Turns.Last.{last}
 use Rattle.replay.proofs.run.run.Statement.{statement}
 use Rattle.replay.proofs.run.run.Tie as tie
 
 abbrev Inv-loop : tie.InvT-loop
 Inv-loop fd watched chunk₀ out₀ s₀ turns₀ chunk out s turns =
-    Stands s (length chunk) × (65536 ≡ length chunk) × (65536 ≡ length out)
+    Stands s (length chunk) × (65536 ≡ length chunk) × (65536 ≡ length out) × Ends s
 
 abbrev μ-loop : tie.MeasureT-loop
 μ-loop fd watched chunk₀ out₀ s₀ turns₀ chunk out s turns = turns
@@ -29,7 +31,7 @@ beginning-requires c κs = search needs
 
 loop-holds : tie.Need-loop-holds Inv-loop μ-loop
 loop-holds c =
-    ((c .beginning .ensures .1, zero-le), c .before .before .large-buffer .ensures, c .before .large-buffer2 .ensures)
+    ((c .beginning .ensures .1, zero-le), c .before .before .large-buffer .ensures, c .before .large-buffer2 .ensures, λ g. absurd (true-not-false refl g))
 
 slice-aggregate-turn : tie.Need-slice-aggregate-turn Inv-loop μ-loop
 slice-aggregate-turn c = c .before .before .before .loop .inv .1
@@ -47,16 +49,17 @@ loop-less : tie.Need-loop-less Inv-loop μ-loop
 loop-less c = search needs
 
 loop-again : tie.Need-loop-again Inv-loop μ-loop
-loop-again c = (c .before .before .turn .ensures .stands, sym (c .before .chunk2 .given), sym (c .out2 .given))
+loop-again c =
+    (c .before .before .turn .ensures .stands, sym (c .before .chunk2 .given), sym (c .out2 .given), last (c .before .before .turn .ensures))
 
 no-progress-requires : tie.Need-no-progress-requires Inv-loop μ-loop
 no-progress-requires c κs = search needs
 
+ending-requires : tie.Need-ending-requires Inv-loop μ-loop
+ending-requires c κs = c .before .before .loop .inv .3
+
 returns : tie.Need-returns Inv-loop μ-loop
 returns c = search needs
-
-returns-2 : tie.Need-returns-2 Inv-loop μ-loop
-returns-2 c = search needs
 
 pub run-spec : {M : Type 1} → statement M
 run-spec =
@@ -76,5 +79,5 @@ run-spec =
     loop-less
     loop-again
     no-progress-requires
-    returns
-    returns-2)
+    ending-requires
+    returns)

@@ -1,0 +1,11 @@
+-- `replay::run::unread` meets its contract: such an end is not a good one.
+-- Assumes nothing.
+use Rattle.replay.proofs.Turning.{unread-is-finished}
+use Rattle.replay.proofs.run.unread.Statement.{statement}
+use Rattle.replay.proofs.run.unread.Tie as tie
+
+returns : tie.Need-returns
+returns c = unread-is-finished
+
+pub unread-spec : {M : Type 1} → statement M
+unread-spec = tie.close (tie.spec returns)
