@@ -9,8 +9,8 @@ use native.Mathlib.Omega.{arith}
 use lib.ListN.{length, getD, take, drop, set, length-set, take-append-drop}
 use lib.Seq.{length-take-le, take-suc-set, drop-set-lt, drop-drop}
 use Rattle.rules.specs.Units.{abs}
-use Rattle.rules.specs.Budget.{popped, oldestId, oldestCost, charged, owes, fits}
-use Rattle.rules.specs.Tick.{Release, noRelease, gained, repayment, repaid, releaseIn, released, capped, turn, lentAfter}
+use Rattle.rules.specs.Budget.{popped, oldestId, oldestCost, charged, fits}
+use Rattle.rules.specs.Tick.{Release, noRelease, andCapped, gained, repayment, repaid, releaseIn, capped, lentAfter}
 use Rattle.rules.specs.Laws.Queues.{popped-sound, oldest-cost-most}
 use Rattle.rules.specs.declared.units.Abs.{Abs}
 use Rattle.rules.specs.declared.units.Virt.{Virt}
@@ -18,7 +18,8 @@ use Rattle.rules.specs.declared.budget.Row.{Row}
 use Rattle.rules.specs.declared.budget.Queue.{Queue}
 use Rattle.leaf.specs.Fit.{CanRelease, Priced, Payable, cheap-is-priced, fitting-is-payable}
 use Rattle.leaf.specs.Alone.{cappedWith}
-use Rattle.leaf.specs.Turns.{Releases, Turns}
+use Rattle.leaf.specs.Turns.{isDue, settledOf, cut, Releases}
+use Rattle.leaf.specs.declared.tick.Settled.{Settled}
 use Rattle.leaf.specs.declared.tick.Left.{Left}
 
 -- a release that goes on after some ids were written
@@ -52,9 +53,6 @@ cost-is-oldest queue e = rw e
 
 pub id-is-oldest : (queue : Queue) {at : ℕ} → at ≡ queue .head → getD (queue .ids) at 0 ≡ oldestId queue
 id-is-oldest queue e = rw e
-
-pub popped-is-shorter : (queue : Queue) {left : Queue} → left ≡ popped queue → 0 < queue .len → left .len < queue .len
-popped-is-shorter queue e some = rw e (omega arith)
 
 -- ---- the loop
 -- the first `count` places of `out` were written, and the row and the queue are what that left
@@ -105,13 +103,13 @@ module _ {share : ℕ} {row₀ : Row} {queue₀ : Queue} {out₀ : List ℕ} {ro
             ∙ rw (add-one count, take-suc-set out count (oldestId queue) inside, append-assoc);
       }
 
-  pub goes-on : {cost : Abs} {id : ℕ} {next : Row} {left : Queue} → 0 < queue .len → fits (oldestCost queue) share row ≡ true
-      → cost ≡ oldestCost queue → id ≡ oldestId queue → next ≡ charged cost share row → left ≡ popped queue
-      → Going share row₀ queue₀ out₀ next left (set out count id) (count + 1)
-  goes-on some f e i n l = rw (n, l, i, e) (one-more some f)
+  pub goes-on : {cost : Abs} {id head : ℕ} {next : Row} → 0 < queue .len → fits (oldestCost queue) share row ≡ true
+      → cost ≡ oldestCost queue → id ≡ oldestId queue → next ≡ charged cost share row → head ≡ popped queue .head
+      → Going share row₀ queue₀ out₀ next (cut queue head (queue .len - 1)) (set out count id) (count + 1)
+  goes-on some f e i n h = rw (n, h, i, e) (one-more some f)
 
   pub ends : releaseIn (queue .len) share row queue ≡ noRelease row queue
-      → Releases (releaseIn (queue₀ .len) share row₀ queue₀) out₀ (record { row = row; queue = queue; count = count }) out
+      → Releases (releaseIn (queue₀ .len) share row₀ queue₀) out₀ (record { row = row; head = queue .head; len = queue .len; count = count }) out
   unfolding lentAfter
   ends e =
       let size : length (take count out) ≡ count = length-take-le count out (omega (arith, going .room, going .size)) in
@@ -121,22 +119,14 @@ module _ {share : ℕ} {row₀ : Row} {queue₀ : Queue} {out₀ : List ℕ} {ro
         rw (all, size, ← going .behind) (sym (take-append-drop count out)),
       )
 
--- ---- the release of a leaf that may owe
-module _ (share : ℕ) (row : Row) (queue : Queue) (out : List ℕ) where
-  pub owing-releases-nothing : owes row ≡ true
-      → Releases (released share row queue) out (record { row = row; queue = queue; count = 0 }) out
-  unfolding released lentAfter
-  owing-releases-nothing e = (rw e, rw e)
+-- ---- the cap is the last of a turn
+pub then-capped : (t : Release) (out : List ℕ) {after : List ℕ} {l : Left} {row : Row} → Releases t out l after → row ≡ cappedWith (l .row) (l .len)
+    → Releases (andCapped t) out (record { row = row; head = l .head; len = l .len; count = l .count }) after
+unfolding capped
+then-capped t out w e = (rw (e, w .0), w .1)
 
-  pub free-releases : {t : Left} {after : List ℕ} → owes row ≡ false
-      → Releases (releaseIn (queue .len) share row queue) out t after → Releases (released share row queue) out t after
-  unfolding released
-  free-releases e w = rw e w
-
--- ---- the whole turn, stage by stage
-pub turn-ends : (gain : Virt) (share : ℕ) (row : Row) (queue : Queue) (out : List ℕ) {after : List ℕ} {more paid left : Row} {p : Abs} {t : Left}
-    → more ≡ gained gain row → p ≡ repayment share more → paid ≡ repaid share more → Releases (released share paid queue) out t after
-    → left ≡ cappedWith (t .row) (t .queue .len)
-    → Turns (turn gain share row queue) out (record { row = left; queue = t .queue; repaid = p; count = t .count }) after
-unfolding turn capped
-turn-ends gain share row queue out m r p w l = (rw (l, w .0, p, r, m), rw (w .1, p, m))
+-- ---- the row alone, stage by stage
+pub settles : (gain : Virt) (share : ℕ) (row : Row) (waiting : ℕ) {more paid next : Row} {p : Abs} {due : Bool}
+    → more ≡ gained gain row → p ≡ repayment share more → paid ≡ repaid share more → next ≡ cappedWith paid waiting → due ≡ isDue paid waiting
+    → _≡_ {A = Settled} (record { row = next; repaid = p; due = due }) (settledOf gain share row waiting)
+settles gain share row waiting m r p n d = rw (n, d, p, r, m)

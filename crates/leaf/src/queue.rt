@@ -1,8 +1,8 @@
 // "Each leaf has room ..": a ring, so no bio moves. Places out of use keep what they had.
 ghost use mathlib.Core.Path.{_≡_};
-ghost use Prim.Native.Nat.{_<_};
+ghost use Prim.Native.Nat.{_+_, _%_, _<_};
 ghost use Rattle.rules.specs.Numbers.{queueRoom};
-ghost use Rattle.rules.specs.Budget.{pushed as pushedOf, popped as poppedOf};
+ghost use Rattle.rules.specs.Budget.{pushed as pushedOf};
 use rules::budget::Controller;
 use rules::budget::Queue;
 use rules::units::Abs;
@@ -28,11 +28,10 @@ pub(crate) fn pushed(id: u32, cost: Abs, mut queue: Queue) -> Queue
     queue
 }
 
-pub(crate) fn popped(mut queue: Queue) -> Queue
-    requires { ⌜ (queue .head < queueRoom) × (0 < queue .len) ⌝ }
-    ensures { λ r. ⌜ r ≡ poppedOf queue ⌝ }
+// The place behind another.
+pub(crate) fn behind(at: u8) -> u8
+    requires { ⌜ at < queueRoom ⌝ }
+    ensures { λ r. ⌜ r ≡ (at + 1) % queueRoom ⌝ }
 {
-    queue.head = (queue.head + 1) % ROOM;
-    queue.len = queue.len - 1;
-    queue
+    (at + 1) % ROOM
 }

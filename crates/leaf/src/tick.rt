@@ -3,9 +3,9 @@
 ghost use mathlib.Core.Path.{_≡_};
 ghost use Prim.Native.Nat.{_+_, _*_, _^_, _≤_, _<_};
 ghost use lib.ListN.{length};
-ghost use Rattle.rules.specs.Tick.{gained as gainedOf, repayment as repaymentOf, repaid as repaidOf, releaseIn, released as releasedOf, turn as leafTurn};
-ghost use Rattle.leaf.specs.Fit.{Fit, CanRepay, CanRelease, gainMost};
-ghost use Rattle.leaf.specs.Turns.{Releases, Turns};
+ghost use Rattle.rules.specs.Tick.{gained as gainedOf, repayment as repaymentOf, repaid as repaidOf, releaseIn, andCapped};
+ghost use Rattle.leaf.specs.Fit.{FitRow, CanRepay, CanRelease, gainMost};
+ghost use Rattle.leaf.specs.Turns.{Releases, isDue, settledOf};
 ghost use Rattle.leaf.specs.Alone.{cappedWith};
 use crate::queue;
 use crate::row;
@@ -17,18 +17,19 @@ use rules::units::Virt;
 // The most that a leaf saves which owes nothing and waits for nothing.
 const IDLE_CAP: u64 = 134217728;
 
-// What a release leaves, and how many ids it wrote.
-pub(crate) struct Left {
+// A leaf before anything is released: what it repaid, and whether bios that wait are due. With none due, its turn is over.
+pub struct Settled {
     pub row: Row,
-    pub queue: Queue,
-    pub count: usize,
+    pub repaid: Abs,
+    pub due: bool,
 }
 
-// The same of a whole turn, and what it repaid.
-pub struct Turned {
+// What a release leaves: the row, where the queue begins now and how many wait there, and how many ids were written. The
+// places of the queue keep what they had, so that no queue is moved.
+pub struct Left {
     pub row: Row,
-    pub queue: Queue,
-    pub repaid: Abs,
+    pub head: u8,
+    pub len: u8,
     pub count: usize,
 }
 
@@ -64,39 +65,36 @@ fn repaid(p: Abs, share: u64, row: Row) -> Row
 }
 
 // "waiting bios are released .."
-fn release_fitting(share: u64, mut row: Row, mut queue: Queue, out: &mut [u32]) -> Left
+fn release_fitting(share: u64, mut row: Row, queue: Queue, out: &mut [u32]) -> Left
     requires { ⌜ CanRelease share row queue × (queue .len ≤ length (now out)) ⌝ }
     ensures { λ r. ⌜ Releases (releaseIn (queue .len) share row queue) (now (out .entry)) r (now (out .exit)) ⌝ }
 {
+    let mut head = queue.head;
+    let mut len = queue.len;
     let mut count: usize = 0;
-    while 0 < queue.len {
-        let oldest = queue::place(queue.head);
+    while 0 < len {
+        let oldest = queue::place(head);
         let cost = queue.costs[oldest];
         if row::fits(cost, share, row) {
             out[count] = queue.ids[oldest];
             row = row::charged(cost, share, row);
-            queue = queue::popped(queue);
+            head = queue::behind(head);
+            len -= 1;
             count += 1;
         } else {
-            return Left { row, queue, count };
+            return Left {
+                row,
+                head,
+                len,
+                count,
+            };
         }
     }
-    Left { row, queue, count }
-}
-
-// "if it now owes nothing, .."
-fn released(share: u64, row: Row, queue: Queue, out: &mut [u32]) -> Left
-    requires { ⌜ CanRelease share row queue × (queue .len ≤ length (now out)) ⌝ }
-    ensures { λ r. ⌜ Releases (releasedOf share row queue) (now (out .entry)) r (now (out .exit)) ⌝ }
-{
-    if row::owes(row) {
-        Left {
-            row,
-            queue,
-            count: 0,
-        }
-    } else {
-        release_fitting(share, row, queue, out)
+    Left {
+        row,
+        head,
+        len,
+        count,
     }
 }
 
@@ -117,21 +115,36 @@ fn capped(row: Row, waiting: u8) -> Row
     }
 }
 
-// "Then for each active leaf, .."
-pub fn turn(gain: Virt, share: u64, row: Row, queue: Queue, out: &mut [u32]) -> Turned
-    requires { ⌜ Fit share row queue × (gain .0 ≤ gainMost) × (queue .len ≤ length (now out)) ⌝ }
-    ensures { λ r. ⌜ Turns (leafTurn gain share row queue) (now (out .entry)) r (now (out .exit)) ⌝ }
+// "if it now owes nothing, ..": whether bios that wait may be released.
+fn is_due(row: Row, waiting: u8) -> bool
+    ensures { λ r. ⌜ r ≡ isDue row waiting ⌝ }
+{
+    if row::owes(row) { false } else { 0 < waiting }
+}
+
+// "Then for each active leaf, ..", as far as its row goes: the queue of a leaf with nothing due is not looked at.
+pub fn settle(gain: Virt, share: u64, row: Row, waiting: u8) -> Settled
+    requires { ⌜ FitRow share row × (gain .0 ≤ gainMost) ⌝ }
+    ensures { λ r. ⌜ r ≡ settledOf gain share row waiting ⌝ }
 {
     let gained = gained(gain, row);
     let p = repayment(share, gained);
     let repaid = repaid(p, share, gained);
-    let left = released(share, repaid, queue, out);
-    let row = left.row;
-    let queue = left.queue;
-    Turned {
-        row: capped(row, queue.len),
-        queue,
+    Settled {
+        row: capped(repaid, waiting),
         repaid: p,
-        count: left.count,
+        due: is_due(repaid, waiting),
     }
+}
+
+// The rest of its turn, where bios are due.
+pub fn released(share: u64, row: Row, queue: Queue, out: &mut [u32]) -> Left
+    requires { ⌜ CanRelease share row queue × (queue .len ≤ length (now out)) ⌝ }
+    ensures { λ r. ⌜ Releases (andCapped (releaseIn (queue .len) share row queue)) (now (out .entry)) r (now (out .exit)) ⌝ }
+{
+    let mut left = release_fitting(share, row, queue, out);
+    let row = left.row;
+    let row = capped(row, left.len);
+    left.row = row;
+    left
 }

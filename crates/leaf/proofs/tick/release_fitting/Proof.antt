@@ -3,15 +3,17 @@
 -- Assumes nothing.
 use native.Mathlib.Omega.{arith}
 use borrow.Author.Needs.{needs}
-use Rattle.leaf.proofs.Release.{Going, begins, cost-is-oldest, id-is-oldest, first-is-priced, first-told, first-is-payable, popped-is-shorter, goes-on, ends, nothing-waits, first-does-not-fit}
+use Rattle.rules.specs.declared.budget.Queue.{Queue}
+use Rattle.leaf.specs.Turns.{cut}
+use Rattle.leaf.proofs.Release.{Going, begins, cost-is-oldest, id-is-oldest, first-is-priced, first-told, first-is-payable, goes-on, ends, nothing-waits, first-does-not-fit}
 use Rattle.leaf.proofs.tick.release_fitting.Statement.{statement}
 use Rattle.leaf.proofs.tick.release_fitting.Tie as tie
 
 abbrev Inv-loop : tie.InvT-loop
-Inv-loop share row₀ out₀ queue₀ count₀ row out queue count = Going share row₀ queue₀ out₀ row queue out count
+Inv-loop share row₀ out₀ queue head₀ len₀ count₀ row out head len count = Going share row₀ queue out₀ row (cut queue head len) out count
 
 abbrev μ-loop : tie.MeasureT-loop
-μ-loop share row₀ out₀ queue₀ count₀ row out queue count = queue .len
+μ-loop share row₀ out₀ queue head₀ len₀ count₀ row out head len count = len
 
 loop-holds : tie.Need-loop-holds Inv-loop μ-loop
 loop-holds c = begins _ _ _ _ (c .before .pre .0) (c .before .pre .1)
@@ -25,10 +27,14 @@ mul-cost c = search needs
 element-copy-out-cost : tie.Need-element-copy-out-cost Inv-loop μ-loop
 element-copy-out-cost c = search needs
 
+-- the queue as it is before a turn of the loop
+abbrev here : tie.At-loop Inv-loop μ-loop → Queue
+here at = cut (at .before .before .args .t3) (at .loop .head) (at .loop .len)
+
 fits-requires : tie.Need-fits-requires Inv-loop μ-loop
 fits-requires c κs =
-    let at = c .before .before .before .loop in
-    first-is-priced (at .inv) (cost-is-oldest (at .queue) (c .before .place .ensures))
+    let at = c .before .before .before in
+    first-is-priced (at .loop .inv) (cost-is-oldest (here at) (c .before .place .ensures))
 
 mul-out : tie.Need-mul-out Inv-loop μ-loop
 mul-out c = search needs
@@ -47,27 +53,28 @@ loop-again : tie.Need-loop-again Inv-loop μ-loop
 loop-again c =
     let test = c .before .before .before in
     let place = test .before .before .before in
-    let at = place .before .before .loop in
-    let cost = cost-is-oldest (at .queue) (place .place .ensures) in
-    goes-on (at .inv) (omega (arith, place .before .loop-test .taken))
-    (first-told (at .inv) cost (test .before .fits2 .ensures) (test .if1 .taken))
+    let at = place .before .before in
+    let cost = cost-is-oldest (here at) (place .place .ensures) in
+    goes-on (at .loop .inv) (omega (arith, place .before .loop-test .taken))
+    (first-told (at .loop .inv) cost (test .before .fits2 .ensures) (test .if1 .taken))
     cost
-    (id-is-oldest (at .queue) (place .place .ensures))
+    (id-is-oldest (here at) (place .place .ensures))
     (c .before .charged .ensures)
-    (c .popped .ensures)
+    (c .behind .ensures)
 
 charged-requires : tie.Need-charged-requires Inv-loop μ-loop
 charged-requires c κs =
     let test = c .before in
     let place = test .before .before .before in
-    let at = place .before .before .loop in
-    let cost = cost-is-oldest (at .queue) (place .place .ensures) in
-    first-is-payable (at .inv) cost (first-told (at .inv) cost (test .before .fits2 .ensures) (test .if1 .taken))
+    let at = place .before .before in
+    let cost = cost-is-oldest (here at) (place .place .ensures) in
+    first-is-payable (at .loop .inv) cost (first-told (at .loop .inv) cost (test .before .fits2 .ensures) (test .if1 .taken))
 
-popped-requires : tie.Need-popped-requires Inv-loop μ-loop
-popped-requires c κs =
-    let goes = c .before .before .before .before .before .before in
-    (goes .before .loop .inv .ready .waiting .head-in, omega (arith, goes .loop-test .taken))
+behind-requires : tie.Need-behind-requires Inv-loop μ-loop
+behind-requires c κs = c .before .before .before .before .before .before .before .loop .inv .ready .waiting .head-in
+
+sub-len : tie.Need-sub-len Inv-loop μ-loop
+sub-len c = omega (arith, c .before .before .before .before .before .before .before .loop-test .taken)
 
 add-count : tie.Need-add-count Inv-loop μ-loop
 add-count c =
@@ -76,9 +83,7 @@ add-count c =
     omega (arith, at .loop .inv .room, goes .loop-test .taken, at .before .before .good)
 
 loop-less : tie.Need-loop-less Inv-loop μ-loop
-loop-less c =
-    let goes = c .before .before .before .before .before .before .before in
-    popped-is-shorter (goes .before .loop .queue) (c .popped .ensures) (omega (arith, goes .loop-test .taken))
+loop-less c = omega (arith, c .before .before .before .before .before .before .before .loop-test .taken)
 
 same-length : tie.Need-same-length Inv-loop μ-loop
 same-length c = c .before .before .before .before .before .loop .inv .size
@@ -86,9 +91,9 @@ same-length c = c .before .before .before .before .before .loop .inv .size
 returns : tie.Need-returns Inv-loop μ-loop
 returns c =
     let place = c .before .before .before in
-    let at = place .before .before .loop in
-    let cost = cost-is-oldest (at .queue) (place .place .ensures) in
-    ends (at .inv) (first-does-not-fit _ _ _ (first-told (at .inv) cost (c .before .fits2 .ensures) (c .if1 .left)))
+    let at = place .before .before in
+    let cost = cost-is-oldest (here at) (place .place .ensures) in
+    ends (at .loop .inv) (first-does-not-fit _ _ _ (first-told (at .loop .inv) cost (c .before .fits2 .ensures) (c .if1 .left)))
 
 same-length-2 : tie.Need-same-length-2 Inv-loop μ-loop
 same-length-2 c = c .before .loop .inv .size
@@ -112,7 +117,8 @@ release-fitting-spec =
     mul-out-2
     slice-write-out
     charged-requires
-    popped-requires
+    behind-requires
+    sub-len
     add-count
     loop-less
     loop-again
