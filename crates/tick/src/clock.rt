@@ -24,7 +24,7 @@ fn wide(x: u16) -> u64
 }
 
 // "virtual time grows by .."
-pub(crate) fn growth(clock: Clock, time: u64) -> Virt
+pub fn growth(clock: Clock, time: u64) -> Virt
     requires { ⌜ Near time clock ⌝ }
     ensures { λ r. ⌜ r ≡ growthOf clock time ⌝ }
 {
@@ -34,7 +34,7 @@ pub(crate) fn growth(clock: Clock, time: u64) -> Virt
 }
 
 // The clock at the new time, of which the growth is known.
-pub(crate) fn advanced(time: u64, mut clock: Clock, grown: Virt) -> Clock
+pub fn advanced(time: u64, mut clock: Clock, grown: Virt) -> Clock
     requires { ⌜ Near time clock × (grown ≡ growthOf clock time) ⌝ }
     ensures { λ r. ⌜ r ≡ advancedOf time clock ⌝ }
 {
@@ -48,7 +48,7 @@ pub(crate) fn advanced(time: u64, mut clock: Clock, grown: Virt) -> Clock
 }
 
 // Refusals 9 to 12. Times are compared by their difference: a time may be any u64.
-pub(crate) fn verdict(clock: Clock, time: u64) -> Verdict
+pub fn verdict(clock: Clock, time: u64) -> Verdict
     requires { ⌜ SoundClock clock ⌝ }
     ensures { λ r. ⌜ r ≡ firstOf (clockChecks time clock) ⌝ }
 {

@@ -14,7 +14,7 @@ use rules::refusals::Count;
 use rules::refusals::Refusal;
 use rules::refusals::Verdict;
 
-mod clock;
+pub mod clock;
 mod turns;
 
 fn wide(x: u8) -> usize

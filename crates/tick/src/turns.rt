@@ -6,9 +6,13 @@ ghost use Rattle.rules.specs.Entries.{tickedBy, lentBy};
 ghost use Rattle.rules.specs.Invariant.{Sound, TickPasses};
 ghost use Rattle.rules.specs.declared.refusals.Verdict.the-variants.{Accepted};
 use crate::clock;
+use leaf::tick::released;
+use leaf::tick::settle;
 use rules::budget::Controller;
 use rules::budget::Ticked;
 use rules::refusals::Count;
+use sets::lowest;
+use sets::remove;
 
 fn wide(x: u32) -> u64
     ensures { λ r. ⌜ r ≡ x ⌝ }
@@ -24,18 +28,25 @@ pub(crate) fn accepted(mut c: Controller, time: u64, out: &mut [u32]) -> Ticked
 {
     let gain = clock::growth(c.clock, time);
     let mut at: usize = 0;
-    for n in 1..64usize {
-        if sets::has(c.active, n) {
-            let share = wide(c.shares[n]);
-            let row = c.rows[n];
+    let mut left = c.active;
+    while 0 < left {
+        let n = lowest(left);
+        let share = wide(c.shares[n]);
+        let row = c.rows[n];
+        let settled = settle(gain, share, row, c.queues[n].len);
+        let row = settled.row;
+        if settled.due {
             let queue = c.queues[n];
-            let turned = leaf::tick::turn(gain, share, row, queue, &mut out[at..]);
-            let row = turned.row;
-            let queue = turned.queue;
+            let rest = released(share, row, queue, &mut out[at..]);
+            let row = rest.row;
             c.rows[n] = row;
-            c.queues[n] = queue;
-            at += turned.count;
+            c.queues[n].head = rest.head;
+            c.queues[n].len = rest.len;
+            at += rest.count;
+        } else {
+            c.rows[n] = row;
         }
+        left = remove(left, n);
     }
     let clock = clock::advanced(time, c.clock, gain);
     c.clock = clock;
