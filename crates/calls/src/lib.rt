@@ -10,6 +10,8 @@ ghost use Rattle.rules.specs.Chunks.{callOf, isCall, isRunning, runs as runsOf,
 ghost use Rattle.rules.specs.Buffers.{Written};
 ghost use Rattle.rules.specs.Invariant.{Sound};
 ghost use Rattle.calls.specs.Calls.{CanPrint, planLinesOf, RanAs};
+use leaf::tick::released;
+use leaf::tick::settle;
 use rules::budget::Controller;
 use rules::refusals::Count;
 use rules::refusals::Verdict;
@@ -19,11 +21,20 @@ use rules::replay::Ran;
 use rules::replay::Setting;
 use rules::trace::Read;
 use rules::trace::Record;
+use sets::lowest;
+use sets::remove;
+use tick::clock;
 
 const WAITING_MOST: usize = 504;
 
 // 504 releases of 13 bytes: the most that one record prints.
 pub const LINE_ROOM: usize = 6552;
+
+fn wide(x: u32) -> u64
+    ensures { λ r. ⌜ r ≡ x ⌝ }
+{
+    x as u64
+}
 
 // What is read asks this of the controller.
 fn call_of(read: Read) -> Call
@@ -136,11 +147,45 @@ pub fn run(mut c: Controller, trace: &[u8], place: usize, most: usize, out: &mut
                 c = done.state;
             }
             Call::Tick(time) => {
+                // The leaves' turns change the state where it stands, as in `tick`. All that can wait has a place here, so
+                // that the clock alone refuses.
                 let mut ids = [0u32; WAITING_MOST];
-                let done = tick::tick(c, time, &mut ids);
-                let answer = done.answer;
+                let clock = c.clock;
+                let verdict = clock::verdict(clock, time);
+                let mut answer = Count::Released(0);
+                match verdict {
+                    Verdict::Accepted => {
+                        let gain = clock::growth(clock, time);
+                        let mut done: usize = 0;
+                        let mut turns = c.active;
+                        while 0 < turns {
+                            let n = lowest(turns);
+                            let share = wide(c.shares[n]);
+                            let row = c.rows[n];
+                            let settled = settle(gain, share, row, c.queues[n].len);
+                            let row = settled.row;
+                            if settled.due {
+                                let queue = c.queues[n];
+                                let rest = released(share, row, queue, &mut ids[done..]);
+                                let row = rest.row;
+                                c.rows[n] = row;
+                                c.queues[n].head = rest.head;
+                                c.queues[n].len = rest.len;
+                                done += rest.count;
+                            } else {
+                                c.rows[n] = row;
+                            }
+                            turns = remove(turns, n);
+                        }
+                        let after = clock::advanced(time, clock, gain);
+                        c.clock = after;
+                        answer = Count::Released(done);
+                    }
+                    Verdict::Refused(x) => {
+                        answer = Count::Refused(x);
+                    }
+                }
                 count += put_ticked(answer, &ids, &mut out[count..]);
-                c = done.state;
             }
             Call::Plan => {
                 let done = plan::plan(c);
