@@ -128,7 +128,7 @@ no-more Waits cost share r = omega arith
 no-more OnDebt cost share r = omega arith
 no-more (Declined x) cost share r = omega arith
 
-no-budget-gained : (b : Bio) (cost : Abs) (share : ℕ) (row : Row) (queue : Queue)
+pub no-budget-gained : (b : Bio) (cost : Abs) (share : ℕ) (row : Row) (queue : Queue)
     → onLeaf b cost share row queue .row .budget .0 ≤ row .budget .0
 unfolding onLeaf onLeafBy
 no-budget-gained b cost share row queue =
@@ -169,7 +169,7 @@ abbrev put : ℕ → Judged → Controller → Controller
 put n j c = putLeaf n (j .row) (j .queue) c
 
 -- "4. If the bio waited .."
-abbrev landed : ℕ → Judged → Controller → Submitted
+abbrev pub landed : ℕ → Judged → Controller → Submitted
 landed n j c = record {
   answer = j .answer;
   state = cond (endsDonation (j .answer) && has (c .donors) n) (rebased (c .active) (put n j c)) (put n j c);
@@ -177,48 +177,14 @@ landed n j c = record {
 
 module _ {b : Bio} {cost : Abs} {c : Controller} (ready : Ready b cost c) {n share : ℕ} (m : n ≡ b .node) (s : share ≡ shareAt c n)
   where
-    in-tree : n < nodesMost
-    in-tree = rw m (active-node (ready .sound .tree) (c .active) (ready .sound .active) (b .node) (ready .active))
-
-    queue-read : getD (c .queues) n (counted 0) ≡ queueAt c n
-    queue-read = getD-inside (c .queues) n (counted 0) emptyQueue (omega (arith, ready .sound .queues-all, in-tree))
-
-    pub can-judge : CanJudge b cost share (rowAt c n) (getD (c .queues) n (counted 0))
-    can-judge =
-        rw (queue-read, s, m)
-        (record { fit = active-is-fit (ready .sound) (b .node) (ready .active); range = ready .range; cheap = ready .cheap })
-
-    module _ {j : Judged} (e : j ≡ onLeaf b cost share (rowAt c n) (getD (c .queues) n (counted 0))) where
+    module _ {j : Judged} (e : j ≡ onLeaf b cost share (rowAt c n) (queueAt c n)) where
       judged-is : j ≡ onLeaf b (costIn c b) (shareAt c (b .node)) (rowAt c (b .node)) (queueAt c (b .node))
-      judged-is = e ∙ rw (queue-read, s, m, ready .same)
-
-      pub can-rebase : SoundTree (c .tree) × Within (c .tree) (c .active)
-          × ((k : ℕ) → rowAt (put n j c) k .budget .0 * shareAt c k ≤ worthMost)
-      can-rebase =
-          let sound : Sound c = ready .sound in
-          let less : j .row .budget .0 ≤ rowAt c n .budget .0 = rw e (no-budget-gained b cost share (rowAt c n) (getD (c .queues) n (counted 0))) in (
-            sound .tree,
-            sound .active,
-            put-each (λ k r q. r .budget .0 * shareAt c k ≤ worthMost) n (j .row) (j .queue) c (sound .rows-all) (sound .queues-all) in-tree
-                (le-trans (mul-le-mul less (omega arith)) (sound .worth-most n)) (λ k i. sound .worth-most k),
-          )
-
-module _ (c : Controller) (n : ℕ) (j : Judged) {x y : Bool} (p : x ≡ endsDonation (j .answer)) (q : y ≡ has (c .donors) n) where
-  pub ends : {r : Controller} → (x && y) ≡ true → r ≡ rebased (c .active) (put n j c)
-      → _≡_ {A = Submitted} (record { answer = j .answer; state = r }) (landed n j c)
-  ends t i = rw (← q, ← p, t, i)
-
-  pub goes-on : (x && y) ≡ false → _≡_ {A = Submitted} (record { answer = j .answer; state = put n j c }) (landed n j c)
-  goes-on t = rw (← q, ← p, t)
+      judged-is = e ∙ rw (s, m, ready .same)
 
 -- ---- what the code finds at its own copy of the bio's node
 pub found : (b : Bio) (c : Controller) {n : ℕ} {k x : Costing} → n ≡ b .node → k ≡ costing (c .model) (rowAt c n) b → k ≡ x
     → costing (c .model) (rowAt c (b .node)) b ≡ x
 found b c m e i = ap (λ (k : ℕ). costing (c .model) (rowAt c k) b) (sym m) ∙ sym e ∙ i
-
-pub leaf-found : (b : Bio) {c : Controller} → Sound c → {n : ℕ} {t v : Bool} → n ≡ b .node → t ≡ has (c .leaves) n → t ≡ v → isLeaf (c .tree) (b .node) ≡ v
-leaf-found b {c} s {n} m e i =
-    ap (isLeaf (c .tree)) (sym m) ∙ sym (leaves-are (s .tree) n) ∙ ap (λ (l : ℕ). has l n) (sym (s .leaves)) ∙ sym e ∙ i
 
 -- ---- the whole: a leaf that wakes has room, and one that was active is judged where it stands
 pub model-is-sound : {c : Controller} → Sound c → SoundModel (c .model)
@@ -316,7 +282,7 @@ module _ {c : Controller} (s : Sound c) (b : Bio) where
           (sym (first ∙ idle-has-room (wouldBe c b) (costIn c b) (rowAt c (b .node)) (queueAt c (b .node)) (here .no-debt) (here .no-waiter) small))
 
       pub submits : {n share : ℕ} {d : Controller} {j : Judged} {r : Submitted} → n ≡ b .node → d ≡ entered n c → share ≡ shareAt d n
-          → j ≡ onLeaf b cost share (rowAt d n) (getD (d .queues) n (counted 0)) → r ≡ landed n j d → r ≡ submitted b c
+          → j ≡ onLeaf b cost share (rowAt d n) (queueAt d n) → r ≡ landed n j d → r ≡ submitted b c
       submits {n} {share} {d} {j} m i h e l =
           l ∙ rw (judged-is (ready-there m i) m h e, i, m) (go (has (c .active) (b .node)) refl)
         where

@@ -1,1 +1,2 @@
 pub mod OnLeaf
+pub mod Decision

@@ -2,20 +2,21 @@
 // leaf and to a donation. What happens inside one row and one queue is the crate leaf's. No node but the bio's is touched
 // unless shares change.
 ghost use mathlib.Core.Path.{_≡_};
-ghost use Prim.Native.Nat.{_≤_};
-ghost use Rattle.rules.specs.Numbers.{costMost, debtMost};
-ghost use Rattle.rules.specs.Words.{has as member};
+ghost use Prim.Native.Nat.{_≤_, _<_};
+ghost use Rattle.rules.specs.Numbers.{costMost, debtMost, nodesMost};
 ghost use Rattle.rules.specs.Budget.{endsDonation, wouldBe};
 ghost use Rattle.rules.specs.Refusals.{firstOf, roomChecks, answerPaper, answerValues, paperOf, submitChecks};
 ghost use Rattle.rules.specs.Entries.{submitted};
 ghost use Rattle.rules.specs.Invariant.{Sound};
 ghost use Rattle.leaf.specs.Alone.{counted};
 ghost use Rattle.submit.specs.OnLeaf.{CanJudge, onLeaf};
+ghost use Rattle.submit.specs.Decision.{placeOf, CanDecide, sharesAfter, decision};
 use rules::budget::Controller;
 use rules::budget::Queue;
 use rules::budget::Row;
 use rules::budget::Submitted;
 use rules::cost::Bio;
+use rules::cost::Model;
 use rules::refusals::Answer;
 use rules::refusals::Costing;
 use rules::refusals::Refusal;
@@ -33,21 +34,12 @@ fn wide(x: u32) -> u64
     x as u64
 }
 
-fn node_of(bio: Bio) -> usize
-    ensures { λ r. ⌜ r ≡ bio .node ⌝ }
+// Where the books of a bio's node stand. A bio may name a node that no tree has: the root stands for it, which is no leaf.
+pub fn place_of(bio: Bio) -> usize
+    ensures { λ r. ⌜ r ≡ placeOf bio ⌝ }
 {
-    bio.node as usize
-}
-
-// Whether a node is in a set: a bio may name one that no set can hold.
-fn holds(set: u64, node: usize) -> bool
-    ensures { λ r. ⌜ r ≡ member set node ⌝ }
-{
-    if node < 64 {
-        sets::has(set, node)
-    } else {
-        false
-    }
+    let node = bio.node as usize;
+    if node < 64 { node } else { 0 }
 }
 
 // Refusals 7 and 8: by the answer, how many wait, and what is owed.
@@ -121,6 +113,94 @@ fn on_leaf(bio: Bio, cost: Abs, share: u64, row: Row, queue: Queue) -> Judged
     }
 }
 
+// What a bio is shown of the state: the sets, the model, and the books at its place.
+pub struct View {
+    pub leaves: u64,
+    pub active: u64,
+    pub donors: u64,
+    pub model: Model,
+    pub share: u32,
+    pub row: Row,
+    pub queue: Queue,
+}
+
+// What a bio does to the shares of all: nothing, or its leaf is to become active before the bio is judged, or all return
+// to base shares.
+pub enum Shares {
+    Stand,
+    Activate,
+    Return,
+}
+
+// What a bio comes to: the answer, the row and the queue at its place after it, and what it does to the shares.
+pub struct Decision {
+    pub answer: Answer,
+    pub shares: Shares,
+    pub row: Row,
+    pub queue: Queue,
+}
+
+// "4. If the bio waited or went on debt and the leaf is a donor, .."
+fn shares_after(answer: Answer, donors: u64, node: usize) -> Shares
+    requires { ⌜ node < nodesMost ⌝ }
+    ensures { λ r. ⌜ r ≡ sharesAfter answer donors node ⌝ }
+{
+    if ends_donation(answer) & sets::has(donors, node) {
+        Shares::Return
+    } else {
+        Shares::Stand
+    }
+}
+
+// Refusals 4 to 8 in their order, and steps 1 to 4 as far as they touch the bio's own leaf. It is shown a part of the state,
+// so that its caller need not hand over all of it; a refused bio leaves the row and the queue as they were.
+pub fn decide(bio: Bio, node: usize, view: View) -> Decision
+    requires { ⌜ CanDecide node view ⌝ }
+    ensures { λ r. ⌜ r ≡ decision bio node view ⌝ }
+{
+    let row = view.row;
+    let queue = view.queue;
+    if !sets::has(view.leaves, node) {
+        return Decision {
+            answer: Answer::Refused(Refusal::NoLeaf),
+            shares: Shares::Stand,
+            row,
+            queue,
+        };
+    }
+    let model = view.model;
+    let costing = cost::cost_of(model, row, bio);
+    match costing {
+        Costing::Costs(cost) => {
+            // "1. An inactive leaf becomes active .."
+            if !sets::has(view.active, node) {
+                return Decision {
+                    answer: Answer::Waits,
+                    shares: Shares::Activate,
+                    row,
+                    queue,
+                };
+            }
+            let judged = on_leaf(bio, cost, wide(view.share), row, queue);
+            let answer = judged.answer;
+            let next = judged.row;
+            let queued = judged.queue;
+            Decision {
+                answer,
+                shares: shares_after(answer, view.donors, node),
+                row: next,
+                queue: queued,
+            }
+        }
+        Costing::Refused(x) => Decision {
+            answer: Answer::Refused(x),
+            shares: Shares::Stand,
+            row,
+            queue,
+        },
+    }
+}
+
 // Submit a bio. The state stands in this one function, which changes it in place and hands it on once: to copy it takes
 // longer than all that is worked out here.
 pub fn submit(mut c: Controller, bio: Bio) -> Submitted
@@ -128,37 +208,49 @@ pub fn submit(mut c: Controller, bio: Bio) -> Submitted
     ensures { λ r. ⌜ r ≡ submitted bio c ⌝ }
     ensures number { λ r. ⌜ answerPaper (r .answer) ≡ paperOf (submitChecks bio c) (answerValues (wouldBe c bio)) ⌝ }
 {
-    let node = node_of(bio);
-    let mut answer = Answer::Refused(Refusal::NoLeaf);
-    if holds(c.leaves, node) {
-        let row = c.rows[node];
+    let node = place_of(bio);
+    let model = c.model;
+    let share = c.shares[node];
+    let row = c.rows[node];
+    let queue = c.queues[node];
+    let view = View {
+        leaves: c.leaves,
+        active: c.active,
+        donors: c.donors,
+        model,
+        share,
+        row,
+        queue,
+    };
+    let mut decided = decide(bio, node, view);
+    // "1. An inactive leaf becomes active .."
+    let first = decided.shares;
+    if let Shares::Activate = first {
+        c = controller::shares::rebased(c, sets::insert(c.active, node));
         let model = c.model;
-        let costing = cost::cost_of(model, row, bio);
-        match costing {
-            Costing::Costs(cost) => {
-                // "1. An inactive leaf becomes active .."
-                let active = c.active;
-                if !sets::has(active, node) {
-                    c = controller::shares::rebased(c, sets::insert(active, node));
-                }
-                let row = c.rows[node];
-                let queue = c.queues[node];
-                let share = wide(c.shares[node]);
-                let judged = on_leaf(bio, cost, share, row, queue);
-                answer = judged.answer;
-                let next = judged.row;
-                let queued = judged.queue;
-                c.rows[node] = next;
-                c.queues[node] = queued;
-                // "4. If the bio waited or went on debt and the leaf is a donor, .."
-                if ends_donation(answer) & sets::has(c.donors, node) {
-                    c = controller::shares::rebased(c, c.active);
-                }
-            }
-            Costing::Refused(x) => {
-                answer = Answer::Refused(x);
-            }
-        }
+        let share = c.shares[node];
+        let row = c.rows[node];
+        let queue = c.queues[node];
+        let view = View {
+            leaves: c.leaves,
+            active: c.active,
+            donors: c.donors,
+            model,
+            share,
+            row,
+            queue,
+        };
+        decided = decide(bio, node, view);
     }
+    let next = decided.row;
+    let queued = decided.queue;
+    c.rows[node] = next;
+    c.queues[node] = queued;
+    // "4. .. the donation ends: all return to base shares."
+    let last = decided.shares;
+    if let Shares::Return = last {
+        c = controller::shares::rebased(c, c.active);
+    }
+    let answer = decided.answer;
     Submitted { answer, state: c }
 }

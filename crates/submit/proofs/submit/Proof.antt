@@ -1,226 +1,212 @@
--- `submit` meets its contract: refusals 4 to 6 by the tests in their order; what is left is judged where its leaf is active.
+-- `submit` meets its contract: what is decided is carried out, in the state in which the leaf is active where it was to become so.
 -- Assumes nothing.
-use mathlib.Core.Path.{_≡_, sym, _∙_}
-use mathlib.Core.Bool.{true}
+use mathlib.Core.Path.{_≡_, ap, _∙_}
 use mathlib.Core.Logic.{⊎-elim}
 use Prim.Native.Nat.{ℕ, _<_}
 use native.Mathlib.Omega.{arith}
 use borrow.Author.Needs.{needs}
-use borrow.Author.Tests.{not-true, not-false}
 use Rattle.rules.specs.Numbers.{nodesMost}
-use Rattle.rules.specs.Tree.{isLeaf}
-use Rattle.rules.specs.Budget.{rowAt, entered}
-use Rattle.rules.specs.Entries.{costing}
-use Rattle.rules.specs.declared.units.Abs.{Abs}
-use Rattle.rules.specs.declared.refusals.Costing.the-variants.{Costs}
-use Rattle.rules.specs.Laws.Decisions.{entered-active}
+use Rattle.rules.specs.Budget.{rebased}
+use Rattle.rules.specs.Entries.{submitted}
+use Rattle.rules.specs.Invariant.{Sound}
 use Rattle.rules.specs.Laws.Refusals.{submit-on-paper}
-use Rattle.submit.proofs.Shapes.{at-node, leaf-node, leaf-found, found, model-is-sound}
-use Rattle.submit.proofs.Shapes.{wakes, woken-within, Ready, ready-there, can-judge, can-rebase, ends, goes-on, submits, unfit, no-leaf}
+use Rattle.rules.specs.Laws.Resharing.{activeWith}
+use Rattle.rules.specs.declared.cost.Bio.{Bio}
+use Rattle.rules.specs.declared.budget.Controller.{Controller}
+use Rattle.submit.specs.declared.Decision.{Decision}
+use Rattle.submit.specs.Decision.{viewAt, decision}
+use Rattle.submit.proofs.Decisions.{place-inside, seen, can-decide, carried, returning, staying, can-return, settles, woken-active, woken-sound, woken-settles}
 use Rattle.submit.proofs.submit.Statement.{statement}
 use Rattle.submit.proofs.submit.Tie as tie
 
--- ---- where a leaf was found
-abbrev start : tie.Then1 → tie.Start
-start c = c .before .before .before
+-- ---- the bio's place
+small : (c : tie.After-place-of) → c .place-of .result < nodesMost
+small c = rw (c .place-of .ensures) (place-inside (c .before .args .bio))
 
-abbrev node : tie.Then1 → ℕ
-node c = c .before .before .node-of .result
+abbrev place : tie.After-decide → tie.After-place-of
+place c = c .before .before .before .before .before
 
-node-is : (c : tie.Then1) → node c ≡ start c .args .bio .node
-node-is c = c .before .before .node-of .ensures
+-- ---- what was decided first
+first : (c : tie.After-decide) → let s = place c .before in let n = place c .place-of .result in
+    c .decide .result ≡ decision (s .args .bio) n (viewAt n (s .args .t1))
+first c =
+    let s = place c .before in
+    c .decide .ensures ∙ ap (decision (s .args .bio) (place c .place-of .result)) (seen (s .pre) (small (place c)))
 
-is-leaf : (c : tie.Then1) → isLeaf (start c .args .t1 .tree) (start c .args .bio .node) ≡ true
-is-leaf c = leaf-found (start c .args .bio) (start c .pre) (node-is c) (c .before .holds .ensures) (c .if1 .taken)
+-- ---- the leaf is to become active
+abbrev woken-at : tie.After-rebased → tie.After-decide
+woken-at c = c .before .before .before .before
 
-small : (c : tie.Then1) → node c < nodesMost
-small c = at-node (node-is c) (leaf-node _ _ (start c .pre .tree) (is-leaf c))
+is-woken : (c : tie.After-rebased) → let p = place (woken-at c) in
+    c .rebased .result ≡ rebased (activeWith (p .place-of .result) (p .before .args .t1)) (p .before .args .t1)
+is-woken c = c .rebased .ensures ∙ ap (λ (a : ℕ). rebased a (place (woken-at c) .before .args .t1)) (c .before .insert .ensures)
 
--- ---- where the bio has a cost
-abbrev found-at : tie.After-costing → tie.Then1
-found-at c = c .before .before .before .before .before
+is-sound : (c : tie.After-rebased) → Sound (c .rebased .result)
+is-sound c =
+    let p = place (woken-at c) in
+    woken-sound (p .before .pre) (p .before .args .bio) (p .place-of .ensures) (first (woken-at c)) (c .before .before .enum-told .given .1) (is-woken c)
 
-abbrev cost-at : tie.After-costing → Abs
-cost-at c = c .costing .given .0 .0
+-- ---- what is carried out, and where
+record Carries (b : Bio) (c : Controller) (n : ℕ) (r : Decision) (d : Controller) : Type 0 where
+  pub sound : Sound d
+  pub same : r ≡ decision b n (viewAt n d)
+  pub whole : carried n r d ≡ submitted b c
 
-has-cost : (c : tie.After-costing) → let s = start (found-at c) .args in costing (s .t1 .model) (rowAt (s .t1) (s .bio .node)) (s .bio) ≡ Costs (cost-at c)
-has-cost c =
-    let s = start (found-at c) .args in
-    found (s .bio) (s .t1) (node-is (found-at c)) (c .before .before .cost-of .ensures .0) (c .costing .given .1)
-
--- ---- where the leaf is active
-abbrev costed : tie.Joined2 → tie.After-costing
-costed c = c .before .before .before
-
-abbrev leaf-at : tie.Joined2 → tie.Then1
-leaf-at c = found-at (costed c)
-
-is-entered : (c : tie.Joined2) → c .if2 .c ≡ entered (node (leaf-at c)) (start (leaf-at c) .args .t1)
-is-entered c =
-    let s = start (leaf-at c) in
-    let n = node (leaf-at c) in
+carries : (c : tie.At-match-came) → let p = place (c .before) in
+    Carries (p .before .args .bio) (p .before .args .t1) (p .place-of .result) (c .match .decided) (c .match .c)
+carries c =
+    let p = place (c .before) in
+    let s = p .before .pre in
+    let b = p .before .args .bio in
     ⊎-elim
-    (λ w. w .3 ∙ w .2 .ensures ∙ rw (w .1 .ensures) (sym (wakes (s .pre) n (sym (c .before .has .ensures) ∙ not-true _ (w .0 .taken)))))
-    (λ w. w .1 ∙ sym (entered-active n (s .args .t1) (sym (c .before .has .ensures) ∙ not-false _ (w .0 .left))))
-    (c .if2 .came)
+    (λ w.
+    let woken : tie.After-rebased = record {
+      before = record {
+        before = record { before = record { before = c .before; match = w .0 }; enum-told = w .1 };
+        insert = w .2;
+      };
+      rebased = w .3;
+    } in
+    let again : w .8 .result ≡ decision b (p .place-of .result) (viewAt (p .place-of .result) (w .3 .result)) =
+    w .8 .ensures ∙ ap (decision b (p .place-of .result)) (seen (is-sound woken) (small p)) in
+    rw (w .9, w .10)
+    (record {
+      sound = is-sound woken;
+      same = again;
+      whole = woken-settles s b (p .place-of .ensures) (first (c .before)) (w .1 .given .1) (is-woken woken) again;
+    }))
+    (λ w.
+    rw (w .1, w .2)
+    (record { sound = s; same = first (c .before); whole = settles s b (p .place-of .ensures) (first (c .before)) (w .0 .keys2) }))
+    (c .match .came)
 
-is-ready : (c : tie.Joined2) → Ready (start (leaf-at c) .args .bio) (cost-at (costed c)) (c .if2 .c)
-is-ready c =
-    ready-there (start (leaf-at c) .pre) _ (is-leaf (leaf-at c)) _ (has-cost (costed c)) (node-is (leaf-at c)) (is-entered c)
+abbrev came : tie.After-queued → tie.At-match-came
+came c = c .before .before
 
--- ---- where the leaf has judged
-abbrev joined : tie.After-on-leaf → tie.Joined2
-joined c = c .before .before .before .before .before
+place-of-requires : tie.Need-place-of-requires
+place-of-requires c κs = search needs
 
-node-of-requires : tie.Need-node-of-requires
-node-of-requires c κs = search needs
+mul-share : tie.Need-mul-share
+mul-share c = record { fits = omega (arith, small (c .before)) }
 
-holds-requires : tie.Need-holds-requires
-holds-requires c κs = search needs
+element-copy-out-share : tie.Need-element-copy-out-share
+element-copy-out-share c = small (c .before)
 
 mul-row : tie.Need-mul-row
-mul-row c = record { fits = omega (arith, small c) }
+mul-row c = record { fits = omega (arith, small (c .before .before)) }
 
 element-copy-out-row : tie.Need-element-copy-out-row
-element-copy-out-row c = small c
+element-copy-out-row c = small (c .before .before)
 
-cost-of-requires : tie.Need-cost-of-requires
-cost-of-requires c κs = model-is-sound (start (c .before .before) .pre)
+mul-queue : tie.Need-mul-queue
+mul-queue c = record { fits = omega (arith, small (c .before .before .before)) }
 
-enum-known-costing : tie.Need-enum-known-costing
-enum-known-costing c = search needs
+element-copy-out-queue : tie.Need-element-copy-out-queue
+element-copy-out-queue c = small (c .before .before .before)
 
-has-requires : tie.Need-has-requires
-has-requires c κs = small (found-at (c .before))
+decide-requires : tie.Need-decide-requires
+decide-requires c κs =
+    let p = c .before .before .before .before in
+    rw (seen (p .before .pre) (small p)) (can-decide (p .before .pre) (small p))
+
+enum-told : tie.Need-enum-told
+enum-told c = search needs
 
 insert-requires : tie.Need-insert-requires
-insert-requires c κs = small (found-at (c .before .before .before))
+insert-requires c κs = small (place (c .before .before))
 
 rebased-requires : tie.Need-rebased-requires
 rebased-requires c κs =
-    let leaf = found-at (c .before .before .before .before) in
-    let sound = start leaf .pre in
-    let off = sym (c .before .before .has .ensures) ∙ not-true _ (c .before .if2 .taken) in
-    (sound .tree, rw (c .insert .ensures) (woken-within sound (node leaf) (rw (node-is leaf) (is-leaf leaf)) off), sound .worth-most)
+    let d = c .before .before .before in
+    let p = place d in
+    let w = woken-active (p .before .pre) (p .before .args .bio) (p .place-of .ensures) (first d) (c .before .enum-told .given .1) in
+    (w .0, rw (c .insert .ensures) (w .1), w .2)
+
+mul-share-2 : tie.Need-mul-share-2
+mul-share-2 c = record { fits = omega (arith, small (place (woken-at (c .before)))) }
+
+element-copy-out-share-2 : tie.Need-element-copy-out-share-2
+element-copy-out-share-2 c = small (place (woken-at (c .before)))
 
 mul-row-2 : tie.Need-mul-row-2
-mul-row-2 c = record { fits = omega (arith, small (leaf-at c)) }
+mul-row-2 c = record { fits = omega (arith, small (place (woken-at (c .before .before)))) }
 
 element-copy-out-row-2 : tie.Need-element-copy-out-row-2
-element-copy-out-row-2 c = small (leaf-at c)
+element-copy-out-row-2 c = small (place (woken-at (c .before .before)))
 
-mul-queue : tie.Need-mul-queue
-mul-queue c = record { fits = omega (arith, small (leaf-at (c .before))) }
+mul-queue-2 : tie.Need-mul-queue-2
+mul-queue-2 c = record { fits = omega (arith, small (place (woken-at (c .before .before .before)))) }
 
-element-copy-out-queue : tie.Need-element-copy-out-queue
-element-copy-out-queue c = small (leaf-at (c .before))
+element-copy-out-queue-2 : tie.Need-element-copy-out-queue-2
+element-copy-out-queue-2 c = small (place (woken-at (c .before .before .before)))
 
-mul-wide : tie.Need-mul-wide
-mul-wide c = record { fits = omega (arith, small (leaf-at (c .before .before))) }
-
-element-copy-out-wide : tie.Need-element-copy-out-wide
-element-copy-out-wide c = small (leaf-at (c .before .before))
-
-wide-requires : tie.Need-wide-requires
-wide-requires c κs = search needs
-
-on-leaf-requires : tie.Need-on-leaf-requires
-on-leaf-requires c κs = can-judge (is-ready (c .before .before .before .before)) (node-is (leaf-at (c .before .before .before .before))) (c .wide .ensures)
+decide-requires-2 : tie.Need-decide-requires-2
+decide-requires-2 c κs =
+    let woken = c .before .before .before .before in
+    let inside = small (place (woken-at woken)) in
+    rw (seen (is-sound woken) inside) (can-decide (is-sound woken) inside)
 
 mul-next : tie.Need-mul-next
-mul-next c = record { fits = omega (arith, small (leaf-at (joined (c .before .before)))) }
+mul-next c = record { fits = omega (arith, small (place (came c .before))) }
 
 element-set-from-next : tie.Need-element-set-from-next
-element-set-from-next c = small (leaf-at (joined (c .before .before)))
+element-set-from-next c = small (place (came c .before))
 
 mul-queued : tie.Need-mul-queued
-mul-queued c = record { fits = omega (arith, small (leaf-at (joined (c .before .before)))) }
+mul-queued c = record { fits = omega (arith, small (place (came c .before))) }
 
 element-set-from-queued : tie.Need-element-set-from-queued
-element-set-from-queued c = small (leaf-at (joined (c .before .before)))
+element-set-from-queued c = small (place (came c .before))
 
-ends-donation-requires : tie.Need-ends-donation-requires
-ends-donation-requires c κs = search needs
-
-has-requires-2 : tie.Need-has-requires-2
-has-requires-2 c κs = small (leaf-at (joined (c .before .before .before)))
+enum-told-2 : tie.Need-enum-told-2
+enum-told-2 c = search needs
 
 rebased-requires-2 : tie.Need-rebased-requires-2
 rebased-requires-2 c κs =
-    let judging = c .before .before .before .before .before in
-    can-rebase (is-ready (joined judging)) (node-is (leaf-at (joined judging))) (judging .before .wide .ensures) (judging .on-leaf .ensures)
-
-enum-known-costing-2 : tie.Need-enum-known-costing-2
-enum-known-costing-2 c = search needs
+    let m = came (c .before .before) in
+    let k = carries m in
+    can-return (k .sound) _ (place (m .before) .place-of .ensures) (k .same)
 
 returns : tie.Need-returns
 returns c =
-    let judging = c .before .before .before .before .before .before in
-    let j = joined judging in
-    let e =
-    submits (start (leaf-at j) .pre) _ (is-leaf (leaf-at j)) _ (has-cost (costed j)) (node-is (leaf-at j)) (is-entered j)
-    (judging .before .wide .ensures) (judging .on-leaf .ensures)
-    (ends (j .if2 .c) (node (leaf-at j)) (judging .on-leaf .result) (c .before .before .before .ends-donation .ensures)
-    (c .before .before .has2 .ensures) (c .before .if3 .taken) (c .rebased2 .ensures)) in
+    let told = c .before in
+    let m = came (told .before .before) in
+    let e = returning (m .match .decided) _ (m .match .c) (told .enum-told2 .given .1) (c .rebased2 .ensures) ∙ carries m .whole in
     (e, submit-on-paper _ _ e)
 
 returns-2 : tie.Need-returns-2
 returns-2 c =
-    let judging = c .before .before .before .before .before in
-    let j = joined judging in
-    let e =
-    submits (start (leaf-at j) .pre) _ (is-leaf (leaf-at j)) _ (has-cost (costed j)) (node-is (leaf-at j)) (is-entered j)
-    (judging .before .wide .ensures) (judging .on-leaf .ensures)
-    (goes-on (j .if2 .c) (node (leaf-at j)) (judging .on-leaf .result) (c .before .before .ends-donation .ensures)
-    (c .before .has2 .ensures) (c .if3 .left)) in
-    (e, submit-on-paper _ _ e)
-
-returns-3 : tie.Need-returns-3
-returns-3 c =
-    let leaf = c .before .before .before .before .before .before in
-    let s = start leaf in
-    let e =
-    unfit (s .pre) _ (is-leaf leaf) _
-    (found (s .args .bio) (s .args .t1) (node-is leaf) (c .before .before .before .cost-of .ensures .0) (c .before .costing2 .given .1)) in
-    (e, submit-on-paper _ _ e)
-
-returns-4 : tie.Need-returns-4
-returns-4 c =
-    let s = c .before .before .before in
-    let e =
-    no-leaf (s .pre) _ (leaf-found (s .args .bio) (s .pre) (c .before .before .node-of .ensures) (c .before .holds .ensures) (c .if1 .left)) in
+    let m = came (c .before) in
+    let e = staying (m .match .decided) _ (m .match .c) (c .match2 .keys2) ∙ carries m .whole in
     (e, submit-on-paper _ _ e)
 
 pub submit-spec : {M : Type 1} → statement M
 submit-spec =
     tie.close
     (tie.spec
-    node-of-requires
-    holds-requires
+    place-of-requires
+    mul-share
+    element-copy-out-share
     mul-row
     element-copy-out-row
-    cost-of-requires
-    enum-known-costing
-    has-requires
-    insert-requires
-    rebased-requires
-    mul-row-2
-    element-copy-out-row-2
     mul-queue
     element-copy-out-queue
-    mul-wide
-    element-copy-out-wide
-    wide-requires
-    on-leaf-requires
+    decide-requires
+    enum-told
+    insert-requires
+    rebased-requires
+    mul-share-2
+    element-copy-out-share-2
+    mul-row-2
+    element-copy-out-row-2
+    mul-queue-2
+    element-copy-out-queue-2
+    decide-requires-2
     mul-next
     element-set-from-next
     mul-queued
     element-set-from-queued
-    ends-donation-requires
-    has-requires-2
+    enum-told-2
     rebased-requires-2
-    enum-known-costing-2
     returns
-    returns-2
-    returns-3
-    returns-4)
+    returns-2)

@@ -1,0 +1,73 @@
+-- What a bio is shown of the state, what is asked of that, and what the bio comes to by it.
+-- Assumes nothing.
+use mathlib.Core.Path.{_≡_}
+use mathlib.Core.Bool.{true, cond, _&&_}
+use Prim.Native.Nat.{ℕ, _<_}
+use lib.Dec.{ltb}
+use Rattle.rules.specs.Numbers.{nodesMost}
+use Rattle.rules.specs.Words.{has}
+use Rattle.rules.specs.Budget.{rowAt, queueAt, shareAt, endsDonation}
+use Rattle.rules.specs.Entries.{costing}
+use Rattle.rules.specs.Invariant.{SoundModel}
+use Rattle.rules.specs.declared.cost.Bio.{Bio}
+use Rattle.rules.specs.declared.budget.Controller.{Controller}
+use Rattle.rules.specs.declared.refusals.Refusal.{Refusal}
+use Rattle.rules.specs.declared.refusals.Refusal.the-variants.{NoLeaf}
+use Rattle.rules.specs.declared.refusals.Costing.{Costing}
+use Rattle.rules.specs.declared.refusals.Costing.the-variants.{Costs, Refused as Uncosted}
+use Rattle.rules.specs.declared.refusals.Answer.{Answer}
+use Rattle.rules.specs.declared.refusals.Answer.the-variants.{Waits, Refused as Declined}
+use Rattle.leaf.specs.Fit.{Fit}
+use Rattle.submit.specs.declared.Judged.{Judged}
+use Rattle.submit.specs.declared.View.{View}
+use Rattle.submit.specs.declared.Shares.{Shares}
+use Rattle.submit.specs.declared.Shares.the-variants.{Stand, Activate, Return}
+use Rattle.submit.specs.declared.Decision.{Decision}
+use Rattle.submit.specs.OnLeaf.{onLeaf}
+
+-- where the books of a bio's node stand: those of the root, which is no leaf, where no tree has that node
+unfoldable pub placeOf : Bio → ℕ
+placeOf b = cond (ltb (b .node) nodesMost) (b .node) 0
+
+-- what a state shows at a place
+abbrev pub viewAt : ℕ → Controller → View
+viewAt n c = record {
+  leaves = c .leaves;
+  active = c .active;
+  donors = c .donors;
+  model = c .model;
+  share = shareAt c n;
+  row = rowAt c n;
+  queue = queueAt c n;
+}
+
+-- a view that a sound state can show
+pub record CanDecide (n : ℕ) (v : View) : Type 0 where
+  pub place : n < nodesMost
+  pub model : SoundModel (v .model)
+  pub fit : has (v .active) n ≡ true → Fit (v .share) (v .row) (v .queue)
+
+-- ---- the decision
+-- "4. If the bio waited .."
+unfoldable pub sharesAfter : Answer → ℕ → ℕ → Shares
+sharesAfter answer donors n = cond (endsDonation answer && has donors n) Return Stand
+
+abbrev pub declined : Refusal → View → Decision
+declined x v = record { answer = Declined x; shares = Stand; row = v .row; queue = v .queue }
+
+-- "1. An inactive leaf becomes active ..": the bio is judged in the state in which it is, and until then it waits
+abbrev pub activates : View → Decision
+activates v = record { answer = Waits; shares = Activate; row = v .row; queue = v .queue }
+
+abbrev pub judgedAt : ℕ → View → Judged → Decision
+judgedAt n v j =
+    record { answer = j .answer; shares = sharesAfter (j .answer) (v .donors) n; row = j .row; queue = j .queue }
+
+unfoldable pub decisionBy : Costing → Bio → ℕ → View → Decision
+decisionBy (Costs cost) b n v =
+    cond (has (v .active) n) (judgedAt n v (onLeaf b cost (v .share) (v .row) (v .queue))) (activates v)
+decisionBy (Uncosted x) b n v = declined x v
+
+-- refusal 4, then 5 and 6, and what is left
+unfoldable pub decision : Bio → ℕ → View → Decision
+decision b n v = cond (has (v .leaves) n) (decisionBy (costing (v .model) (v .row) b) b n v) (declined NoLeaf v)
