@@ -21,9 +21,8 @@ use rules::replay::Ran;
 use rules::replay::Setting;
 use rules::trace::Read;
 use rules::trace::Record;
-use sets::lowest;
-use sets::remove;
-use tick::clock;
+use submit::Shares;
+use submit::View;
 
 const WAITING_MOST: usize = 504;
 
@@ -141,10 +140,36 @@ pub fn run(mut c: Controller, trace: &[u8], place: usize, most: usize, out: &mut
                 };
             }
             Call::Bio(bio) => {
-                let done = submit::submit(c, bio);
-                let answer = done.answer;
+                // On the usual path one row and one queue change where they stand; where shares change, the state is
+                // handed through.
+                let node = submit::place_of(bio);
+                let model = c.model;
+                let share = c.shares[node];
+                let row = c.rows[node];
+                let queue = c.queues[node];
+                let view = View {
+                    leaves: c.leaves,
+                    active: c.active,
+                    donors: c.donors,
+                    model,
+                    share,
+                    row,
+                    queue,
+                };
+                let decided = submit::decide(bio, node, view);
+                let mut answer = decided.answer;
+                let shares = decided.shares;
+                if let Shares::Stand = shares {
+                    let next = decided.row;
+                    let queued = decided.queue;
+                    c.rows[node] = next;
+                    c.queues[node] = queued;
+                } else {
+                    let done = submit::submit(c, bio);
+                    answer = done.answer;
+                    c = done.state;
+                }
                 count += lines::put_answer(answer, bio.id, &mut out[count..]);
-                c = done.state;
             }
             Call::Tick(time) => {
                 // The leaves' turns change the state where it stands, as in `tick`. All that can wait has a place here, so

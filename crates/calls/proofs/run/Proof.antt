@@ -1,8 +1,8 @@
 -- `calls::run` meets its contract: each turn of the loop is one call of the run, and its lines stand behind those before.
 -- Assumes nothing.
-use mathlib.Core.Path.{_≡_, refl, sym, ap, subst, _∙_}
+use mathlib.Core.Path.{_≡_, ap, _∙_}
 use mathlib.Core.Bool.{true}
-use mathlib.Core.List.{List, _++_}
+use mathlib.Core.List.{List}
 use mathlib.Core.Logic.{⊎-elim}
 use Prim.Native.Nat.{ℕ, _+_, _-_, _≤_, _<_}
 use native.Mathlib.Omega.{arith}
@@ -11,27 +11,17 @@ use mir.Syntax.{w64}
 use mir.Val.{Fits}
 use borrow.Author.Needs.{needs}
 use denote.Ref.{now}
-use Rattle.rules.specs.Numbers.{lineRoom}
-use Rattle.rules.specs.Tick.{advanced, lentAfter, waitingAll}
-use Rattle.rules.specs.Refusals.{firstOf, tickChecks}
-use Rattle.rules.specs.Entries.{ticked, lentOf}
-use Rattle.rules.specs.Invariant.{Sound, TickPasses}
-use Rattle.rules.specs.Replay.{allRoom, answerLine, tickLines, verdictLines}
+use Rattle.rules.specs.Numbers.{lineRoom, nodesMost}
+use Rattle.rules.specs.Replay.{answerLine, tickLines, verdictLines}
 use Rattle.rules.specs.Chunks.{isCall}
 use Rattle.rules.specs.Buffers.{Written, restOf, putBack}
 use Rattle.rules.specs.Laws.Buffers.{stands-left, stands-kept, stands-fits}
-use Rattle.rules.specs.Laws.Passes.{tick-passes}
-use Rattle.rules.specs.Laws.States.{waiting-small}
+use Rattle.rules.specs.Entries.{submitted}
 use Rattle.rules.specs.declared.budget.Controller.{Controller}
-use Rattle.rules.specs.declared.budget.Ticked.{Ticked}
-use Rattle.rules.specs.declared.refusals.Verdict.the-variants.{Accepted}
+use Rattle.rules.specs.declared.budget.Submitted.{Submitted}
 use Rattle.rules.specs.declared.replay.Call.{Call}
-use Rattle.sets.specs.Visit.{less-left}
-use Rattle.leaf.specs.Alone.{counted}
-use Rattle.leaf.specs.Fit.{gainMost}
-use Rattle.tick.proofs.Clocks.{grown-small}
-use Rattle.tick.proofs.Answers.{clock-refuses, enough-places, refuses, accepts}
-use Rattle.tick.proofs.Going.{Walking, same-walking, passing-is-near, begins, row-fits, rests, release-fits, count-fits, goes-on, ends as over}
+use Rattle.submit.specs.Decision.{viewAt, decision}
+use Rattle.submit.proofs.Decisions.{place-inside, seen, can-decide, stands}
 use Rattle.calls.specs.Calls.{planLinesOf}
 use Rattle.calls.proofs.Answered.{Answered, can-print, bio-answered, tick-answered, plan-answered, set-answered}
 use Rattle.calls.proofs.Running.{Running, begun, goes, ends, asks, called, no-call, bio-is-call, tick-is-call, plan-is-call, set-is-call}
@@ -125,36 +115,107 @@ returns c =
 enum-known-call : tie.Need-enum-known-call Inv-loop2 μ-loop2 Inv-loop μ-loop
 enum-known-call c = search needs
 
-submit-requires : tie.Need-submit-requires Inv-loop2 μ-loop2 Inv-loop μ-loop
-submit-requires c κs = head (c .before .before .before) .loop .inv .sound
+abbrev placed : tie.After-decide Inv-loop μ-loop → tie.After-place-of Inv-loop μ-loop
+placed c = c .before .before .before .before .before
 
-sub-put-answer : tie.Need-sub-put-answer Inv-loop2 μ-loop2 Inv-loop μ-loop
-sub-put-answer c = left-at (c .before .before .before .before)
+abbrev bio-asked : tie.After-place-of Inv-loop μ-loop → tie.After-call Inv-loop μ-loop
+bio-asked c = c .before .before
 
-part-put-answer-start : tie.Need-part-put-answer-start Inv-loop2 μ-loop2 Inv-loop μ-loop
-part-put-answer-start c = left-at (c .before .before .before .before)
+abbrev bio-turn : tie.After-place-of Inv-loop μ-loop → Turn
+bio-turn c = bio-asked c .before .before
+
+small-at : (c : tie.After-place-of Inv-loop μ-loop) → c .place-of .result < nodesMost
+small-at c = rw (c .place-of .ensures) (place-inside (bio-asked c .call .given .0 .0))
+
+decided-at : (c : tie.After-decide Inv-loop μ-loop) → let p = placed c in let n = p .place-of .result in
+    c .decide .result ≡ decision (bio-asked p .call .given .0 .0) n (viewAt n (head (bio-turn p) .loop .c))
+decided-at c =
+    let p = placed c in
+    c .decide .ensures
+    ∙ ap (decision (bio-asked p .call .given .0 .0) (p .place-of .result)) (seen (head (bio-turn p) .loop .inv .sound) (small-at p))
+
+-- by either way the answer and the state are the submission's
+is-submitted : (m : tie.At-match2-came Inv-loop μ-loop) → let p = placed (m .before) in
+    _≡_ {A = Submitted} (record { answer = m .match2 .answer; state = m .match2 .c }) (submitted (bio-asked p .call .given .0 .0) (head (bio-turn p) .loop .c))
+is-submitted m =
+    let p = placed (m .before) in
+    ⊎-elim
+    (λ w. rw (w .4, w .5) (stands (head (bio-turn p) .loop .inv .sound) _ (p .place-of .ensures) (decided-at (m .before)) (w .1 .given .1)))
+    (λ w. rw (w .3, w .4) (w .1 .ensures .0))
+    (m .match2 .came)
+
+place-of-requires : tie.Need-place-of-requires Inv-loop μ-loop
+place-of-requires c κs = search needs
+
+mul-share : tie.Need-mul-share Inv-loop μ-loop
+mul-share c = record { fits = omega (arith, small-at (c .before)) }
+
+element-copy-out-share : tie.Need-element-copy-out-share Inv-loop μ-loop
+element-copy-out-share c = small-at (c .before)
+
+mul-row : tie.Need-mul-row Inv-loop μ-loop
+mul-row c = record { fits = omega (arith, small-at (c .before .before)) }
+
+element-copy-out-row : tie.Need-element-copy-out-row Inv-loop μ-loop
+element-copy-out-row c = small-at (c .before .before)
+
+mul-queue : tie.Need-mul-queue Inv-loop μ-loop
+mul-queue c = record { fits = omega (arith, small-at (c .before .before .before)) }
+
+element-copy-out-queue : tie.Need-element-copy-out-queue Inv-loop μ-loop
+element-copy-out-queue c = small-at (c .before .before .before)
+
+decide-requires : tie.Need-decide-requires Inv-loop μ-loop
+decide-requires c κs =
+    let p = c .before .before .before .before in
+    let sound = head (bio-turn p) .loop .inv .sound in
+    rw (seen sound (small-at p)) (can-decide sound (small-at p))
+
+enum-told-2 : tie.Need-enum-told-2 Inv-loop μ-loop
+enum-told-2 c = search needs
+
+mul-next : tie.Need-mul-next Inv-loop μ-loop
+mul-next c = record { fits = omega (arith, small-at (placed (c .before .before .before .before))) }
+
+element-set-from-next : tie.Need-element-set-from-next Inv-loop μ-loop
+element-set-from-next c = small-at (placed (c .before .before .before .before))
+
+mul-queued : tie.Need-mul-queued Inv-loop μ-loop
+mul-queued c = record { fits = omega (arith, small-at (placed (c .before .before .before .before))) }
+
+element-set-from-queued : tie.Need-element-set-from-queued Inv-loop μ-loop
+element-set-from-queued c = small-at (placed (c .before .before .before .before))
+
+submit-requires : tie.Need-submit-requires Inv-loop μ-loop
+submit-requires c κs = head (bio-turn (placed (c .before))) .loop .inv .sound
+
+sub-put-answer : tie.Need-sub-put-answer Inv-loop μ-loop
+sub-put-answer c = left-at (bio-turn (placed (c .before)))
+
+part-put-answer-start : tie.Need-part-put-answer-start Inv-loop μ-loop
+part-put-answer-start c = left-at (bio-turn (placed (c .before)))
 
 part-put-answer-end : tie.Need-part-put-answer-end Inv-loop2 μ-loop2 Inv-loop μ-loop
 part-put-answer-end c = search needs
 
-put-answer-requires : tie.Need-put-answer-requires Inv-loop2 μ-loop2 Inv-loop μ-loop
-put-answer-requires c κs = room-at (c .before .before .before .before .before) 13 (omega arith)
+put-answer-requires : tie.Need-put-answer-requires Inv-loop μ-loop
+put-answer-requires c κs = room-at (bio-turn (placed (c .before .before))) 13 (omega arith)
 
 add-count : tie.Need-add-count Inv-loop2 μ-loop2 Inv-loop μ-loop
 add-count c =
     let put = c .before .before in
-    count-at (put .before .before .before .before .before .before) (answerLine _ _) (put .put-answer .ensures) (put .put-answer .kept .1 .1 .0)
+    count-at (bio-turn (placed (put .before .before .before))) (answerLine _ _) (put .put-answer .ensures) (put .put-answer .kept .1 .1 .0)
 
-loop-less : tie.Need-loop-less Inv-loop2 μ-loop2 Inv-loop μ-loop
-loop-less c = less-at (c .before .before .before .before .before .before .before .before .before)
+loop-less : tie.Need-loop-less Inv-loop μ-loop
+loop-less c = less-at (bio-turn (placed (c .before .before .before .before .before)))
 
 loop-again : tie.Need-loop-again Inv-loop2 μ-loop2 Inv-loop μ-loop
 loop-again c =
-    let put = c .before .before .before in
-    let done = put .before .before in
-    let asked = done .before .before in
-    again-at (asked .before .before) _ (asked .call .given .1) (bio-is-call _) _
-    (bio-answered _ _ _ _ (done .submit .ensures .0) (put .put-answer .ensures)) (put .put-answer .kept .1 .1 .0)
+    let put = c .before .before in
+    let came = put .before .before in
+    let p = placed (came .before) in
+    again-at (bio-turn p) _ (bio-asked p .call .given .1) (bio-is-call _) _
+    (bio-answered _ _ _ _ (is-submitted came) (put .put-answer .ensures)) (put .put-answer .kept .1 .1 .0)
 
 -- ---- a tick
 enum-known-call-2 : tie.Need-enum-known-call-2 Inv-loop2 μ-loop2 Inv-loop μ-loop
@@ -202,8 +263,25 @@ is-ticked m =
 verdict-requires : tie.Need-verdict-requires Inv-loop2 μ-loop2 Inv-loop μ-loop
 verdict-requires c κs = head (c .before .before .before .before) .loop .inv .sound .clock
 
-enum-told-2 : tie.Need-enum-told-2 Inv-loop2 μ-loop2 Inv-loop μ-loop
-enum-told-2 c = search needs
+add-count-2 : tie.Need-add-count-2 Inv-loop μ-loop
+add-count-2 c =
+    let put = c .before .before in
+    count-at (put .before .before .before .before .before .before .before .before .before) (tickLines _ _) (put .put-ticked .ensures) (put .put-ticked .kept .1 .1 .0)
+
+loop-less-2 : tie.Need-loop-less-2 Inv-loop μ-loop
+loop-less-2 c = less-at (c .before .before .before .before .before .before .before .before .before .before .before .before)
+
+loop-again-2 : tie.Need-loop-again-2 Inv-loop μ-loop
+loop-again-2 c =
+    let put = c .before .before .before in
+    let done = put .before .before .before .before in
+    let asked = done .before .before .before in
+    again-at (asked .before .before) _ (asked .call2 .given .1) (tick-is-call _) _
+    (tick-answered _ _ _ _ (done .tick .ensures .0 .0) (done .tick .ensures .0 .1) (put .put-ticked .ensures)) (put .put-ticked .kept .1 .1 .0)
+
+-- ---- a plan
+enum-told-3 : tie.Need-enum-told-3 Inv-loop μ-loop
+enum-told-3 c = search needs
 
 growth-requires : tie.Need-growth-requires Inv-loop2 μ-loop2 Inv-loop μ-loop
 growth-requires c κs = passing-is-near (head (tick-turn (c .before .before)) .loop .inv .sound) (passing c)
@@ -499,6 +577,19 @@ run-spec =
     same-length
     returns
     enum-known-call
+    place-of-requires
+    mul-share
+    element-copy-out-share
+    mul-row
+    element-copy-out-row
+    mul-queue
+    element-copy-out-queue
+    decide-requires
+    enum-told-2
+    mul-next
+    element-set-from-next
+    mul-queued
+    element-set-from-queued
     submit-requires
     sub-put-answer
     part-put-answer-start
