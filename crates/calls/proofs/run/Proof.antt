@@ -600,33 +600,33 @@ run-spec =
     loop-again
     enum-known-call-2
     verdict-requires
-    enum-told-2
+    enum-told-3
     growth-requires
     loop2-holds
     lowest-requires
     mul-wide
     element-copy-out-wide
     wide-requires
-    mul-row
-    element-copy-out-row
+    mul-row-2
+    element-copy-out-row-2
     mul-settle
     element-copy-out-settle
     settle-requires
-    mul-queue
-    element-copy-out-queue
+    mul-queue-2
+    element-copy-out-queue-2
     mul-ids
     sub-released
     part-ids-start
     part-ids-end
     released-requires
-    mul-row-2
+    mul-row-3
     element-set-from-row
     mul-c
     way-write-given-c
     mul-c-2
     way-write-given-c-2
     add-done
-    mul-row-3
+    mul-row-4
     element-set-from-row-2
     remove-requires
     loop2-less
