@@ -1,7 +1,7 @@
 -- The steps of a plan put together: what sharing asks of them, and that they are the plan of the rules.
 -- Assumes nothing.
-use mathlib.Core.Path.{_≡_, sym, ap, _∙_}
-use mathlib.Core.Bool.{Bool, true, false, _&&_}
+use mathlib.Core.Path.{_≡_, refl, sym, ap, _∙_}
+use mathlib.Core.Bool.{Bool, true, false, cond, _&&_}
 use mathlib.Core.List.{List}
 use Prim.Native.Nat.{ℕ, _*_, _^_, _≤_, _<_}
 use native.Mathlib.Nat.{le-trans}
@@ -9,11 +9,11 @@ use native.Mathlib.Omega.{arith}
 use lib.ListN.{getD}
 use borrow.Author.Tests.{eq-eqb, ne-eqb}
 use Rattle.rules.specs.Numbers.{nodesMost, leafMost}
-use Rattle.rules.specs.Words.{sumTo, table, has}
+use Rattle.rules.specs.Words.{sumTo, table, has, noNode}
 use Rattle.rules.specs.Units.{abs}
 use Rattle.rules.specs.Tree.{baseShares}
-use Rattle.rules.specs.Budget.{rowAt, queueAt, shareAt}
-use Rattle.rules.specs.Plan.{usageAll, isQuiet, forgiven, targetOf, isDonor, quietIn, activeAfter, targetsIn, donorsIn, closed, shared, plan}
+use Rattle.rules.specs.Budget.{emptyRow, rowAt, queueAt, shareAt, withClock, withSharing, withBooks, reshared}
+use Rattle.rules.specs.Plan.{usageAll, isQuiet, forgiven, targetOf, isDonor, isDonation, donated, quietIn, activeAfter, targetsIn, donorsIn, restartedClock, closed, shared, plan}
 use Rattle.rules.specs.Refusals.{planChecks}
 use Rattle.rules.specs.Entries.{plannedBy, planned}
 use Rattle.rules.specs.Invariant.{worthMost, Sound, Within}
@@ -25,10 +25,15 @@ use Rattle.rules.specs.Laws.States.{usage-small}
 use Rattle.rules.specs.Laws.Trees.{no-root-within}
 use Rattle.rules.specs.Laws.Plans.{closed-worth, after-within, donor-active, donor-is}
 use Rattle.donation.specs.Donation as donation
-use Rattle.plan.specs.Sharing.{CanShare}
-use Rattle.plan.specs.Steps.{usageOf, stayingOf, targetsOf, donorsOf}
+use Rattle.controller.specs.Rows.{rebudgetedRows}
+use Rattle.plan.specs.Sharing.{CanShare, sharingOf, putPlan}
+use Rattle.plan.specs.Steps.{usageOf, stayingOf, targetsOf, donorsOf, closedRows}
+use Rattle.plan.specs.declared.Sharing.{Sharing}
+use Rattle.plan.specs.declared.Planned.{Planned}
 use Rattle.leaf.specs.Alone.{staysWith, isDonorWith, donor-by-count}
 use Rattle.rules.specs.declared.units.Abs.{Abs}
+use Rattle.rules.specs.declared.budget.Row.{Row}
+use Rattle.rules.specs.declared.budget.Clock.{Clock}
 use Rattle.rules.specs.declared.budget.Controller.{Controller}
 use Rattle.rules.specs.declared.budget.Outcome.{Outcome}
 use Rattle.rules.specs.declared.refusals.Verdict.the-variants.{Accepted, Refused}
@@ -94,9 +99,8 @@ pub still-within : {c : Controller} → Sound c → (quiet : Bool) (active : ℕ
 still-within s quiet active e = rw e (after-within s quiet)
 
 -- ---- what sharing asks
-module _ {c : Controller} (s : Sound c) (quiet : Bool) {active donors : ℕ} {bases : List ℕ} (targets : List ℕ) {books : Controller}
-    (ea : active ≡ activeAfter quiet c) (eb : bases ≡ baseShares (c .tree) active) (ed : donors ≡ donorsIn quiet active bases targets c)
-    (ek : books ≡ closed quiet active c) where
+module _ {c : Controller} (s : Sound c) (quiet : Bool) {active donors : ℕ} {bases : List ℕ} (targets : List ℕ)
+    (ea : active ≡ activeAfter quiet c) (eb : bases ≡ baseShares (c .tree) active) (ed : donors ≡ donorsIn quiet active bases targets c) where
   within : Within (c .tree) active
   within = still-within s quiet active ea
 
@@ -112,17 +116,18 @@ module _ {c : Controller} (s : Sound c) (quiet : Bool) {active donors : ℕ} {ba
   gives-less : (n : ℕ) → has donors n ≡ true → getD targets n 0 < getD (baseShares (c .tree) active) n 0
   gives-less n e = rw (← eb) (donor-is s quiet bases targets n (is-candidate n e) .2)
 
-  closed-worthy : (n : ℕ) → rowAt (closed quiet active c) n .budget .0 * shareAt (closed quiet active c) n ≤ worthMost
-  unfolding closed
-  closed-worthy n = le-trans (closed-worth quiet active c (s .rows-all) n) (s .worth-most n)
-
-  pub ready : CanShare active donors bases targets books
+  pub ready : CanShare active donors bases targets
   ready = record {
     no-root = root-idle;
     no-root-gives = is-false (has donors 0) (λ e. true-not-false (gives-active 0 e) root-idle);
     donation = λ d. rw eb (donation.planned (s .tree) (s .thick) active donors targets within gives-active gives-less d);
-    worth = λ n. rw ek (closed-worthy n);
   }
+
+-- ---- no budget is worth too much to follow a new share
+pub closed-worthy : {c : Controller} → Sound c → (quiet : Bool) (active : ℕ) {next : List Row} → next ≡ closedRows (c .rows) quiet active
+    → (n : ℕ) → getD next n emptyRow .budget .0 * shareAt c n ≤ worthMost
+unfolding closed
+closed-worthy {c} s quiet active e n = rw e (le-trans (closed-worth quiet active c (s .rows-all) n) (s .worth-most n))
 
 -- ---- the steps are the plan of the rules
 abbrev answered : Controller → Outcome
@@ -133,16 +138,39 @@ module _ (c : Controller) where
   unfolding planned plannedBy planChecks
   refused e = rw (eq-eqb (c .clock .since .0) 0 e)
 
-  module _ {quiet : Bool} {active donors : ℕ} {bases targets : List ℕ} {books r : Controller}
+  -- each way reshares the same state
+  one-sharing : (active donors : ℕ) (bases targets : List ℕ) (books : Controller) → let sh = sharingOf active donors bases targets in
+      reshared active (sh .donors) (sh .shares) books ≡ shared active donors bases targets books
+  unfolding shared
+  one-sharing active donors bases targets books = go (isDonation active donors)
+    where
+      go : (b : Bool) →
+          let sh : Sharing = cond b (record { donors = donors; shares = donated active donors bases targets }) (record { donors = noNode; shares = bases }) in
+          reshared active (sh .donors) (sh .shares) books
+          ≡ cond b (reshared active donors (donated active donors bases targets) books) (reshared active noNode bases books)
+      go true = refl
+      go false = refl
+
+  module _ {quiet : Bool} {active donors : ℕ} {bases targets : List ℕ} {next rows : List Row} {sh : Sharing}
       (eq : quiet ≡ quietIn c) (ea : active ≡ activeAfter quiet c) (eb : bases ≡ baseShares (c .tree) active)
       (et : targets ≡ table (λ n. targetOf (c .clock .since) (rowAt c n .usage))) (ed : donors ≡ donorsIn quiet active bases targets c)
-      (ek : books ≡ closed quiet active c) (er : r ≡ shared active donors bases targets books) where
-    is-plan : r ≡ plan c
-    unfolding plan targetsIn
-    is-plan = er ∙ rw (ek, ed, et, eb, ea, eq)
+      (ek : next ≡ closedRows (c .rows) quiet active) (es : sh ≡ sharingOf active donors bases targets)
+      (er : rows ≡ rebudgetedRows next (c .shares) (sh .shares)) where
+    reshares : putPlan (record { active = active; donors = sh .donors; shares = sh .shares; rows = rows }) c ≡ reshared active (sh .donors) (sh .shares) (closed quiet active c)
+    unfolding reshared closed
+    reshares = rw (er, ek)
 
-    pub accepted : 0 < c .clock .since .0 → _≡_ {A = Outcome} (record { answer = Accepted; state = r }) (planned c)
-    unfolding planned plannedBy planChecks
-    accepted some =
-        rw (ne-eqb (c .clock .since .0) 0 (λ z. omega arith))
-        (ap answered is-plan)
+    pub is-plan : putPlan (record { active = active; donors = sh .donors; shares = sh .shares; rows = rows }) c ≡ plan c
+    unfolding plan targetsIn
+    is-plan =
+        reshares ∙ ap (λ (x : Sharing). reshared active (x .donors) (x .shares) (closed quiet active c)) es
+        ∙ one-sharing active donors bases targets (closed quiet active c) ∙ rw (ed, et, eb, ea, eq)
+
+  -- the parts are put in one by one
+  pub put-in : (p : Planned) {clock : Clock} → clock ≡ restartedClock (c .clock) → putPlan p c ≡ plan c
+      → withSharing (p .active) (p .donors) (p .shares) (withBooks (p .rows) (c .queues) (withClock clock c)) ≡ plan c
+  put-in p e q = rw e q
+
+  pub accepted : {r : Controller} → r ≡ plan c → 0 < c .clock .since .0 → _≡_ {A = Outcome} (record { answer = Accepted; state = r }) (planned c)
+  unfolding planned plannedBy planChecks
+  accepted e some = rw (ne-eqb (c .clock .since .0) 0 (λ z. omega arith)) (ap answered e)

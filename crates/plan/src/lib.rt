@@ -4,15 +4,15 @@ ghost use mathlib.Core.Path.{_≡_};
 ghost use mathlib.Core.Bool.{_&&_};
 ghost use Prim.Native.Nat.{_≤_, _<_};
 ghost use Rattle.rules.specs.Numbers.{sinceMost};
-ghost use Rattle.rules.specs.Plan.{isQuiet, forgiven as forgivenOf, closed as closedOf, shared as sharedOf};
+ghost use Rattle.rules.specs.Plan.{isQuiet, forgiven as forgivenOf, restartedClock, plan as planOf};
 ghost use Rattle.rules.specs.Refusals.{verdictNumber, due, planChecks};
 ghost use Rattle.rules.specs.Entries.{planned};
 ghost use Rattle.rules.specs.Invariant.{Sound};
 ghost use Rattle.leaf.specs.Alone.{staysWith, isDonorWith};
 ghost use Rattle.leaf.specs.Fit.{usageMost};
-ghost use Rattle.plan.specs.Sharing.{CanShare};
+ghost use Rattle.plan.specs.Sharing.{CanShare, sharingOf, putPlan};
 ghost use Rattle.plan.specs.Steps.{usageOf, stayingOf, targetsOf, donorsOf, closedRows, Grows, Clears};
-use controller::shares::reshared;
+use controller::shares::rebudgeted;
 use donation::donated;
 use donation::is_donation;
 use leaf::plan::forgiven;
@@ -20,6 +20,7 @@ use leaf::plan::is_donor;
 use leaf::plan::plan_row;
 use leaf::plan::stays;
 use leaf::plan::target_of;
+use rules::budget::Clock;
 use rules::budget::Controller;
 use rules::budget::Outcome;
 use rules::budget::Row;
@@ -156,54 +157,43 @@ fn closed_rows(rows: [Row; 64], quiet: bool, active: u64) -> [Row; 64]
     next
 }
 
-// The books and the clock once the plan is over; the shares are still those held before.
-fn closed(mut c: Controller, quiet: bool, active: u64) -> Controller
-    ensures { λ r. ⌜ r ≡ closedOf quiet active c ⌝ }
-{
-    let rows = c.rows;
-    let next = closed_rows(rows, quiet, active);
-    let mut clock = c.clock;
-    let since = Virt(0);
-    clock.since = since;
-    c.clock = clock;
-    c.rows = next;
-    c
+// "With no donor or no active non-donor, ..": who gives, and the share of each.
+struct Sharing {
+    donors: u64,
+    shares: [u32; 64],
 }
 
-// "With no donor or no active non-donor, ..": base shares, or donated ones.
-fn shared(
-    c: Controller,
-    active: u64,
-    donors: u64,
-    bases: [u32; 64],
-    targets: [u32; 64],
-) -> Controller
-    requires { ⌜ CanShare active donors bases targets c ⌝ }
-    ensures { λ r. ⌜ r ≡ sharedOf active donors bases targets c ⌝ }
+fn shared(active: u64, donors: u64, bases: [u32; 64], targets: [u32; 64]) -> Sharing
+    requires { ⌜ CanShare active donors bases targets ⌝ }
+    ensures { λ r. ⌜ r ≡ sharingOf active donors bases targets ⌝ }
 {
     if is_donation(active, donors) {
         let shares = donated(active, donors, &bases, &targets);
-        reshared(c, active, donors, shares)
+        Sharing { donors, shares }
     } else {
-        reshared(c, active, 0, bases)
+        Sharing {
+            donors: 0,
+            shares: bases,
+        }
     }
 }
 
-// A plan is refused exactly when no virtual time has passed since the last one, and changes nothing then.
-pub fn plan(c: Controller) -> Outcome
-    requires { ⌜ Sound c ⌝ }
-    ensures { λ r. ⌜ r ≡ planned c ⌝ }
-    ensures number { λ r. ⌜ verdictNumber (r .answer) ≡ due (planChecks c) ⌝ }
+// What a plan leaves of the state, but for E, which starts at 0.
+pub struct Planned {
+    pub active: u64,
+    pub donors: u64,
+    pub shares: [u32; 64],
+    pub rows: [Row; 64],
+}
+
+// A plan that is not refused. It hands out what changes, and its caller puts that into a state of its own: a step that took
+// the whole state would copy it.
+pub fn parts(c: Controller) -> Planned
+    requires { ⌜ Sound c × (0 < c .clock .since .0) ⌝ }
+    ensures { λ r. ⌜ putPlan r c ≡ planOf c ⌝ }
 {
     let clock = c.clock;
     let since = clock.since;
-    if since.0 == 0 {
-        return Outcome {
-            answer: Verdict::Refused(Refusal::NothingPassed),
-            state: c,
-        };
-    }
-    // What the steps look at is read here once: each that took the whole state would copy it.
     let rows = c.rows;
     let mut usages = [Abs(0); 64];
     let mut waiting = [0u8; 64];
@@ -220,10 +210,53 @@ pub fn plan(c: Controller) -> Outcome
     let bases = base_shares(tree, active);
     let targets = targets_in(usages, since);
     let donors = donors_in(active, quiet, rows, waiting, &bases, &targets);
-    let books = closed(c, quiet, active);
-    let state = shared(books, active, donors, bases, targets);
+    let next = closed_rows(rows, quiet, active);
+    let sharing = shared(active, donors, bases, targets);
+    let before = c.shares;
+    let shares = sharing.shares;
+    let scaled = rebudgeted(next, &before, &shares);
+    Planned {
+        active,
+        donors: sharing.donors,
+        shares,
+        rows: scaled,
+    }
+}
+
+// "E and usages start at 0".
+pub fn restarted(mut clock: Clock) -> Clock
+    ensures { λ r. ⌜ r ≡ restartedClock clock ⌝ }
+{
+    let since = Virt(0);
+    clock.since = since;
+    clock
+}
+
+// A plan is refused exactly when no virtual time has passed since the last one, and changes nothing then.
+pub fn plan(mut c: Controller) -> Outcome
+    requires { ⌜ Sound c ⌝ }
+    ensures { λ r. ⌜ r ≡ planned c ⌝ }
+    ensures number { λ r. ⌜ verdictNumber (r .answer) ≡ due (planChecks c) ⌝ }
+{
+    let clock = c.clock;
+    let since = clock.since;
+    if since.0 == 0 {
+        return Outcome {
+            answer: Verdict::Refused(Refusal::NothingPassed),
+            state: c,
+        };
+    }
+    let next = parts(c);
+    let again = restarted(clock);
+    let shares = next.shares;
+    let rows = next.rows;
+    c.clock = again;
+    c.active = next.active;
+    c.donors = next.donors;
+    c.shares = shares;
+    c.rows = rows;
     Outcome {
         answer: Verdict::Accepted,
-        state,
+        state: c,
     }
 }
