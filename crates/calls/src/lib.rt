@@ -14,6 +14,7 @@ use leaf::tick::released;
 use leaf::tick::settle;
 use rules::budget::Controller;
 use rules::refusals::Count;
+use rules::refusals::Refusal;
 use rules::refusals::Verdict;
 use rules::replay::Call;
 use rules::replay::Phase;
@@ -213,9 +214,21 @@ pub fn run(mut c: Controller, trace: &[u8], place: usize, most: usize, out: &mut
                 count += put_ticked(answer, &ids, &mut out[count..]);
             }
             Call::Plan => {
-                let done = plan::plan(c);
-                let answer = done.answer;
-                c = done.state;
+                // What a plan leaves is put in where the state stands.
+                let clock = c.clock;
+                let mut answer = Verdict::Refused(Refusal::NothingPassed);
+                if plan::is_due(clock) {
+                    let next = plan::parts(c);
+                    let again = plan::restarted(clock);
+                    let shares = next.shares;
+                    let rows = next.rows;
+                    c.clock = again;
+                    c.active = next.active;
+                    c.donors = next.donors;
+                    c.shares = shares;
+                    c.rows = rows;
+                    answer = Verdict::Accepted;
+                }
                 count += put_planned(answer, c.active, &c.shares, &mut out[count..]);
             }
             Call::Set(setting) => {

@@ -6,8 +6,9 @@ use mathlib.Core.List.{List}
 use Prim.Native.Nat.{ℕ, _*_, _^_, _≤_, _<_}
 use native.Mathlib.Nat.{le-trans}
 use native.Mathlib.Omega.{arith}
+use lib.Dec.{ltb}
 use lib.ListN.{getD}
-use borrow.Author.Tests.{eq-eqb, ne-eqb}
+use borrow.Author.Tests.{ltb-true, ltb-false, eq-eqb, ne-eqb}
 use Rattle.rules.specs.Numbers.{nodesMost, leafMost}
 use Rattle.rules.specs.Words.{sumTo, table, has, noNode}
 use Rattle.rules.specs.Units.{abs}
@@ -134,9 +135,14 @@ abbrev answered : Controller → Outcome
 answered c = record { answer = Accepted; state = c }
 
 module _ (c : Controller) where
-  pub refused : c .clock .since .0 ≡ 0 → _≡_ {A = Outcome} (record { answer = Refused NothingPassed; state = c }) (planned c)
+  pub passed : {t : Bool} → t ≡ ltb 0 (c .clock .since .0) → t ≡ true → 0 < c .clock .since .0
+  passed e f = ltb-true 0 (c .clock .since .0) (sym e ∙ f)
+
+  pub refused : {t : Bool} → t ≡ ltb 0 (c .clock .since .0) → t ≡ false → _≡_ {A = Outcome} (record { answer = Refused NothingPassed; state = c }) (planned c)
   unfolding planned plannedBy planChecks
-  refused e = rw (eq-eqb (c .clock .since .0) 0 e)
+  refused e f =
+      let none : c .clock .since .0 ≡ 0 = omega (arith, ltb-false 0 (c .clock .since .0) (sym e ∙ f)) in
+      rw (eq-eqb (c .clock .since .0) 0 none)
 
   -- each way reshares the same state
   one-sharing : (active donors : ℕ) (bases targets : List ℕ) (books : Controller) → let sh = sharingOf active donors bases targets in

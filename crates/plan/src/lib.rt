@@ -3,6 +3,7 @@
 ghost use mathlib.Core.Path.{_≡_};
 ghost use mathlib.Core.Bool.{_&&_};
 ghost use Prim.Native.Nat.{_≤_, _<_};
+ghost use lib.Dec.{ltb};
 ghost use Rattle.rules.specs.Numbers.{sinceMost};
 ghost use Rattle.rules.specs.Plan.{isQuiet, forgiven as forgivenOf, restartedClock, plan as planOf};
 ghost use Rattle.rules.specs.Refusals.{verdictNumber, due, planChecks};
@@ -223,6 +224,13 @@ pub fn parts(c: Controller) -> Planned
     }
 }
 
+// A plan is refused exactly when no virtual time has passed since the last one.
+pub fn is_due(clock: Clock) -> bool
+    ensures { λ r. ⌜ r ≡ ltb 0 (clock .since .0) ⌝ }
+{
+    0 < clock.since.0
+}
+
 // "E and usages start at 0".
 pub fn restarted(mut clock: Clock) -> Clock
     ensures { λ r. ⌜ r ≡ restartedClock clock ⌝ }
@@ -232,15 +240,14 @@ pub fn restarted(mut clock: Clock) -> Clock
     clock
 }
 
-// A plan is refused exactly when no virtual time has passed since the last one, and changes nothing then.
+// A refused plan hands the state back as it came.
 pub fn plan(mut c: Controller) -> Outcome
     requires { ⌜ Sound c ⌝ }
     ensures { λ r. ⌜ r ≡ planned c ⌝ }
     ensures number { λ r. ⌜ verdictNumber (r .answer) ≡ due (planChecks c) ⌝ }
 {
     let clock = c.clock;
-    let since = clock.since;
-    if since.0 == 0 {
+    if !is_due(clock) {
         return Outcome {
             answer: Verdict::Refused(Refusal::NothingPassed),
             state: c,

@@ -12,16 +12,25 @@ use mir.Val.{Fits}
 use borrow.Author.Needs.{needs}
 use denote.Ref.{now}
 use Rattle.rules.specs.Numbers.{lineRoom, nodesMost}
-use Rattle.rules.specs.Replay.{answerLine, tickLines, verdictLines}
+use Rattle.rules.specs.Tick.{advanced, lentAfter, waitingAll}
+use Rattle.rules.specs.Refusals.{firstOf, tickChecks}
+use Rattle.rules.specs.Entries.{submitted, ticked, lentOf, planned}
+use Rattle.rules.specs.Invariant.{Sound, TickPasses}
+use Rattle.rules.specs.Replay.{allRoom, answerLine, tickLines, verdictLines}
 use Rattle.rules.specs.Chunks.{isCall}
 use Rattle.rules.specs.Buffers.{Written, restOf, putBack}
 use Rattle.rules.specs.Laws.Buffers.{stands-left, stands-kept, stands-fits}
 use Rattle.rules.specs.Entries.{submitted}
 use Rattle.rules.specs.declared.budget.Controller.{Controller}
+use Rattle.rules.specs.declared.budget.Outcome.{Outcome}
 use Rattle.rules.specs.declared.budget.Submitted.{Submitted}
 use Rattle.rules.specs.declared.replay.Call.{Call}
 use Rattle.submit.specs.Decision.{viewAt, decision}
 use Rattle.submit.proofs.Decisions.{place-inside, seen, can-decide, stands}
+use Rattle.tick.proofs.Clocks.{grown-small}
+use Rattle.tick.proofs.Answers.{clock-refuses, enough-places, refuses, accepts}
+use Rattle.tick.proofs.Going.{Walking, same-walking, passing-is-near, begins, row-fits, rests, release-fits, count-fits, goes-on, ends as over}
+use Rattle.plan.proofs.Steps.{passed, refused, put-in, accepted}
 use Rattle.calls.specs.Calls.{planLinesOf}
 use Rattle.calls.proofs.Answered.{Answered, can-print, bio-answered, tick-answered, plan-answered, set-answered}
 use Rattle.calls.proofs.Running.{Running, begun, goes, ends, asks, called, no-call, bio-is-call, tick-is-call, plan-is-call, set-is-call}
@@ -486,36 +495,61 @@ loop-again-2 c =
 enum-told-3 : tie.Need-enum-told-3 Inv-loop2 μ-loop2 Inv-loop μ-loop
 enum-told-3 c = search needs
 
-plan-requires : tie.Need-plan-requires Inv-loop2 μ-loop2 Inv-loop μ-loop
-plan-requires c κs = head (c .before .before) .loop .inv .sound
+abbrev plan-asked : tie.After-is-due Inv-loop2 μ-loop2 Inv-loop μ-loop → tie.After-enum-told4 Inv-loop2 μ-loop2 Inv-loop μ-loop
+plan-asked d = d .before .before
+
+abbrev plan-turn : tie.After-is-due Inv-loop2 μ-loop2 Inv-loop μ-loop → Turn
+plan-turn d = plan-asked d .before .before
+
+-- by either way the answer and the state are the plan's
+is-planned : (j : tie.Joined2 Inv-loop2 μ-loop2 Inv-loop μ-loop) →
+    _≡_ {A = Outcome} (record { answer = j .if2 .answer; state = j .if2 .c }) (planned (head (plan-turn (j .before)) .loop .c))
+is-planned j =
+    let d = j .before in
+    let s = head (plan-turn d) .loop .c in
+    ⊎-elim
+    (λ w. rw (w .5, w .6) (accepted s (put-in s (w .1 .result) (w .2 .ensures) (w .1 .ensures)) (passed s (d .is-due .ensures) (w .0 .taken))))
+    (λ w. rw (w .1, w .2) (refused s (d .is-due .ensures) (w .0 .left)))
+    (j .if2 .came)
+
+is-due-requires : tie.Need-is-due-requires Inv-loop2 μ-loop2 Inv-loop μ-loop
+is-due-requires c κs = search needs
+
+parts-requires : tie.Need-parts-requires Inv-loop2 μ-loop2 Inv-loop μ-loop
+parts-requires c κs =
+    let d = c .before in
+    let at = head (plan-turn d) in
+    (at .loop .inv .sound, passed (at .loop .c) (d .is-due .ensures) (c .if2 .taken))
+
+restarted-requires : tie.Need-restarted-requires Inv-loop2 μ-loop2 Inv-loop μ-loop
+restarted-requires c κs = search needs
 
 sub-put-planned : tie.Need-sub-put-planned Inv-loop2 μ-loop2 Inv-loop μ-loop
-sub-put-planned c = left-at (c .before .before .before .before .before .before)
+sub-put-planned c = left-at (plan-turn (c .before .before .before))
 
 part-put-planned-start : tie.Need-part-put-planned-start Inv-loop2 μ-loop2 Inv-loop μ-loop
-part-put-planned-start c = left-at (c .before .before .before .before .before .before)
+part-put-planned-start c = left-at (plan-turn (c .before .before .before))
 
 part-put-planned-end : tie.Need-part-put-planned-end Inv-loop2 μ-loop2 Inv-loop μ-loop
 part-put-planned-end c = search needs
 
 put-planned-requires : tie.Need-put-planned-requires Inv-loop2 μ-loop2 Inv-loop μ-loop
-put-planned-requires c κs = room-at (c .before .before .before .before .before .before .before) 1008 (omega arith)
+put-planned-requires c κs = room-at (plan-turn (c .before .before .before .before)) 1008 (omega arith)
 
 add-count-3 : tie.Need-add-count-3 Inv-loop2 μ-loop2 Inv-loop μ-loop
 add-count-3 c =
     let put = c .before .before in
-    count-at (put .before .before .before .before .before .before .before .before) (planLinesOf _ _ _) (put .put-planned .ensures) (put .put-planned .kept .1 .1 .1 .0)
+    count-at (plan-turn (put .before .before .before .before .before)) (planLinesOf _ _ _) (put .put-planned .ensures) (put .put-planned .kept .1 .1 .1 .0)
 
 loop-less-3 : tie.Need-loop-less-3 Inv-loop2 μ-loop2 Inv-loop μ-loop
-loop-less-3 c = less-at (c .before .before .before .before .before .before .before .before .before .before)
+loop-less-3 c = less-at (plan-turn (c .before .before .before .before .before .before .before))
 
 loop-again-3 : tie.Need-loop-again-3 Inv-loop2 μ-loop2 Inv-loop μ-loop
 loop-again-3 c =
     let put = c .before .before in
-    let done = put .before .before .before .before .before in
-    let asked = done .before in
-    again-at (asked .before .before) _ (asked .enum-told3 .given .1) plan-is-call _
-    (plan-answered _ _ _ (done .plan .ensures .0) (put .put-planned .ensures)) (put .put-planned .kept .1 .1 .1 .0)
+    let j = put .before .before .before .before in
+    again-at (plan-turn (j .before)) _ (plan-asked (j .before) .enum-told4 .given .1) plan-is-call _
+    (plan-answered _ _ _ (is-planned j) (put .put-planned .ensures)) (put .put-planned .kept .1 .1 .1 .0)
 
 -- ---- a setting
 enum-known-call-3 : tie.Need-enum-known-call-3 Inv-loop2 μ-loop2 Inv-loop μ-loop
@@ -641,8 +675,10 @@ run-spec =
     add-count-2
     loop-less-2
     loop-again-2
-    enum-told-3
-    plan-requires
+    enum-told-4
+    is-due-requires
+    parts-requires
+    restarted-requires
     sub-put-planned
     part-put-planned-start
     part-put-planned-end
