@@ -40,7 +40,7 @@ pub fn number_of(x: Refusal) -> u64
     }
 }
 
-// Decimal digits without leading zeros: those of a tenth, then the last.
+// Decimal digits without leading zeros: those of a hundredth, then the last two.
 fn put_digits(n: u64, out: &mut [u8]) -> usize
     requires { ⌜ length (digits n) ≤ length (now out) ⌝ }
     ensures { λ r. ⌜ Written (digits n) r (now (out .entry)) (now (out .exit)) ⌝ }
@@ -49,9 +49,16 @@ fn put_digits(n: u64, out: &mut [u8]) -> usize
         out[0] = (48 + n) as u8;
         return 1;
     }
-    let at = put_digits(n / 10, out);
-    out[at] = (48 + n % 10) as u8;
-    at + 1
+    let tenth = n / 10;
+    if n < 100 {
+        out[0] = (48 + tenth) as u8;
+        out[1] = (48 + n % 10) as u8;
+        return 2;
+    }
+    let at = put_digits(tenth / 10, out);
+    out[at] = (48 + tenth % 10) as u8;
+    out[at + 1] = (48 + n % 10) as u8;
+    at + 2
 }
 
 // A number and the byte that ends it: a blank or a line feed.

@@ -1,6 +1,6 @@
--- The proof of the cycle of calls {put_digits}. The measure is the number: its tenth is less where it has two digits.
+-- The proof of the cycle of calls {put_digits}. The measure is the number: its hundredth is less where it has three digits.
 -- Assumes nothing.
-use mathlib.Core.Path.{_≡_}
+use mathlib.Core.Path.{_≡_, refl, subst}
 use mathlib.Core.List.{List}
 use Prim.Native.Nat.{ℕ, _+_, _/_, _%_, _^_, _≤_, _<_}
 use native.Mathlib.Omega.{arith}
@@ -46,6 +46,49 @@ module _ (n : ℕ) (o₀ : List ℕ) (room : length (digits n) ≤ length o₀) 
       long : Stands (digits n) o₀ (set o r (48 + n % 10)) (r + 1)
       long = rw (digits-long n h fits) (stands-byte tenth more (48 + n % 10))
 
+    -- two digits
+    module _ (s : n < 100) where
+      both : 1 < length o₀
+      both =
+          let one : length (digits (n / 10)) ≡ 1 = rw (digits-short (n / 10) (omega arith)) refl in
+          omega (arith, longer)
+
+      first : Stands (digits (n / 10)) o₀ (set o₀ 0 (48 + n / 10)) 1
+      first = rw (digits-short (n / 10) (omega arith)) (stands-first o₀ (48 + n / 10) (omega (arith, both)))
+
+      second-in : 1 < length (set o₀ 0 (48 + n / 10))
+      second-in = stands-in first both
+
+      pair : Stands (digits n) o₀ (set (set o₀ 0 (48 + n / 10)) 1 (48 + n % 10)) 2
+      pair = rw (digits-long n h fits) (stands-byte first both (48 + n % 10))
+
+-- three digits and more: the last but one is the last of a tenth
+module _ (n : ℕ) (o₀ : List ℕ) (room : length (digits n) ≤ length o₀) (h : 100 ≤ n) (fits : n < 2 ^ 64) where
+  tenth-fits : length (digits (n / 10)) ≤ length o₀
+  tenth-fits = tenth-room n o₀ room (omega arith) fits
+
+  hundredth-room : length (digits (n / 10 / 10)) ≤ length o₀
+  hundredth-room = tenth-room (n / 10) o₀ tenth-fits (omega arith) (omega arith)
+
+  module _ (r : ℕ) (o : List ℕ) (w : Written (digits (n / 10 / 10)) r o₀ o) where
+    but-one-in : r < length o
+    but-one-in = last-in (n / 10) o₀ tenth-fits (omega arith) (omega arith) r o w
+
+    but-one : Stands (digits (n / 10)) o₀ (set o r (48 + n / 10 % 10)) (r + 1)
+    but-one = long (n / 10) o₀ tenth-fits (omega arith) (omega arith) r o w
+
+    end-room : r + 1 < length o₀
+    end-room = omega (arith, longer n o₀ room (omega arith) fits, longer (n / 10) o₀ tenth-fits (omega arith) (omega arith), w .0)
+
+    end-in : r + 1 < length (set o r (48 + n / 10 % 10))
+    end-in = stands-in but-one end-room
+
+    all : Stands (digits n) o₀ (set (set o r (48 + n / 10 % 10)) (r + 1) (48 + n % 10)) (r + 2)
+    all =
+        let two : r + 1 + 1 ≡ r + 2 = omega arith in
+        subst (λ (k : ℕ). Stands (digits n) o₀ (set (set o r (48 + n / 10 % 10)) (r + 1) (48 + n % 10)) k) two
+        (rw (digits-long n (omega arith) fits) (stands-byte but-one end-room (48 + n % 10)))
+
 abbrev μ : Measures 1 kinds.ps ℕ
 μ κs a = a .0
 
@@ -75,40 +118,96 @@ module _ (t : ℕ) where
       let start = c .before .before in
       short (start .args .n) (now (start .args .out)) (start .pre .1) (omega (arith, c .if1 .taken)) .front
 
-  -- above the needs that a lie about it may leave true: the first error is what is false
+  -- above the needs that a lie about them may leave true: the first error is what is false
   returns-2 : lts.Need-returns-2 (less t, reads.Post) (here t) reads.Post
   returns-2 c =
-      let called = c .before .before in
-      let start = called .before .before .before .before in
-      long (start .args .n) (now (start .args .out)) (start .pre .1) (omega (arith, called .before .before .if1 .left)) (start .fits .n .fits) (called .put-digits .result)
-      (called .put-digits .last .1 .0) (called .put-digits .ensures) .front
+      let start = c .before .before .before in
+      pair (start .args .n) (now (start .args .out)) (start .pre .1) (omega (arith, c .before .if1 .left)) (start .fits .n .fits) (omega (arith, c .if2 .taken)) .front
 
-  put-digits-requires : lts.Need-put-digits-requires (less t, reads.Post) (here t) reads.Post
-  put-digits-requires c κs =
-      let start = c .before .before .before in (
-        omega (arith, start .pre .0, c .before .if1 .left),
-        tenth-room (start .args .n) (now (start .args .out)) (start .pre .1) (omega (arith, c .before .if1 .left)) (start .fits .n .fits),
-      )
+  returns-3 : lts.Need-returns-3 (less t, reads.Post) (here t) reads.Post
+  returns-3 c =
+      let called = c .before .before in
+      let start = called .before .before .before .before .before in
+      all (start .args .n) (now (start .args .out)) (start .pre .1) (omega (arith, called .before .before .if2 .left)) (start .fits .n .fits) (called .put-digits .result)
+      (called .put-digits .last .1 .0) (called .put-digits .ensures) .front
 
   add-out-2 : lts.Need-add-out-2 (less t, reads.Post) (here t) reads.Post
   add-out-2 c = search needs
 
   cast-out-2 : lts.Need-cast-out-2 (less t, reads.Post) (here t) reads.Post
-  cast-out-2 c = search needs
+  cast-out-2 c = omega (arith, c .if2 .taken)
 
   slice-write-out-2 : lts.Need-slice-write-out-2 (less t, reads.Post) (here t) reads.Post
   slice-write-out-2 c =
-      let called = c .before .before in
-      let start = called .before .before .before .before in
-      last-in (start .args .n) (now (start .args .out)) (start .pre .1) (omega (arith, called .before .before .if1 .left)) (start .fits .n .fits) (called .put-digits .result)
-      (called .put-digits .last .1 .0) (called .put-digits .ensures)
+      let start = c .before .before .before in
+      omega (arith, both (start .args .n) (now (start .args .out)) (start .pre .1) (omega (arith, c .before .if1 .left)) (start .fits .n .fits) (omega (arith, c .if2 .taken)))
 
-  add-result : lts.Need-add-result (less t, reads.Post) (here t) reads.Post
-  add-result c = omega (arith, slice-write-out-2 c, c .before .before .before .before .before .before .good .1 .0 .0)
+  add-out-3 : lts.Need-add-out-3 (less t, reads.Post) (here t) reads.Post
+  add-out-3 c = search needs
+
+  cast-out-3 : lts.Need-cast-out-3 (less t, reads.Post) (here t) reads.Post
+  cast-out-3 c = search needs
+
+  slice-write-out-3 : lts.Need-slice-write-out-3 (less t, reads.Post) (here t) reads.Post
+  slice-write-out-3 c =
+      let start = c .before .before .before in
+      second-in (start .args .n) (now (start .args .out)) (start .pre .1) (omega (arith, c .before .if1 .left)) (start .fits .n .fits) (omega (arith, c .if2 .taken))
 
   same-length-2 : lts.Need-same-length-2 (less t, reads.Post) (here t) reads.Post
   same-length-2 c = search needs
 
+  put-digits-requires : lts.Need-put-digits-requires (less t, reads.Post) (here t) reads.Post
+  put-digits-requires c κs =
+      let start = c .before .before .before .before in (
+        omega (arith, start .pre .0, c .before .if2 .left),
+        hundredth-room (start .args .n) (now (start .args .out)) (start .pre .1) (omega (arith, c .before .if2 .left)) (start .fits .n .fits),
+      )
+
+  add-out-4 : lts.Need-add-out-4 (less t, reads.Post) (here t) reads.Post
+  add-out-4 c = search needs
+
+  cast-out-4 : lts.Need-cast-out-4 (less t, reads.Post) (here t) reads.Post
+  cast-out-4 c = search needs
+
+  slice-write-out-4 : lts.Need-slice-write-out-4 (less t, reads.Post) (here t) reads.Post
+  slice-write-out-4 c =
+      let called = c .before .before in
+      let start = called .before .before .before .before .before in
+      but-one-in (start .args .n) (now (start .args .out)) (start .pre .1) (omega (arith, called .before .before .if2 .left)) (start .fits .n .fits) (called .put-digits .result)
+      (called .put-digits .last .1 .0) (called .put-digits .ensures)
+
+  add-out-5 : lts.Need-add-out-5 (less t, reads.Post) (here t) reads.Post
+  add-out-5 c = search needs
+
+  cast-out-5 : lts.Need-cast-out-5 (less t, reads.Post) (here t) reads.Post
+  cast-out-5 c = search needs
+
+  add-out-6 : lts.Need-add-out-6 (less t, reads.Post) (here t) reads.Post
+  add-out-6 c = omega (arith, slice-write-out-4 c, c .before .before .before .before .before .before .before .good .1 .0 .0)
+
+  slice-write-out-5 : lts.Need-slice-write-out-5 (less t, reads.Post) (here t) reads.Post
+  slice-write-out-5 c =
+      let called = c .before .before in
+      let start = called .before .before .before .before .before in
+      end-in (start .args .n) (now (start .args .out)) (start .pre .1) (omega (arith, called .before .before .if2 .left)) (start .fits .n .fits) (called .put-digits .result)
+      (called .put-digits .last .1 .0) (called .put-digits .ensures)
+
+  add-result : lts.Need-add-result (less t, reads.Post) (here t) reads.Post
+  add-result c =
+      let called = c .before .before in
+      let start = called .before .before .before .before .before in
+      omega (
+        arith,
+        end-room (start .args .n) (now (start .args .out)) (start .pre .1) (omega (arith, called .before .before .if2 .left)) (start .fits .n .fits)
+            (called .put-digits .result) (called .put-digits .last .1 .0) (called .put-digits .ensures),
+        start .good .1 .0 .0,
+      )
+
+  same-length-3 : lts.Need-same-length-3 (less t, reads.Post) (here t) reads.Post
+  same-length-3 c = search needs
+
 pub +put-digits-spec : {M : Type 1} → statement M
 +put-digits-spec = close μ λ t. lts.spec (less t, reads.Post) (here t) reads.Post (add-out t) (cast-out t) (slice-write-out t) (same-length t) (returns t)
-    (put-digits-requires t) (add-out-2 t) (cast-out-2 t) (slice-write-out-2 t) (add-result t) (same-length-2 t) (returns-2 t)
+    (add-out-2 t) (cast-out-2 t) (slice-write-out-2 t) (add-out-3 t) (cast-out-3 t) (slice-write-out-3 t) (same-length-2 t) (returns-2 t)
+    (put-digits-requires t) (add-out-4 t) (cast-out-4 t) (slice-write-out-4 t) (add-out-5 t) (cast-out-5 t) (add-out-6 t) (slice-write-out-5 t)
+    (add-result t) (same-length-3 t) (returns-3 t)
