@@ -7,8 +7,8 @@ use libc::EAGAIN;
 use libc::EINTR;
 
 // A proved loop has to end, and nothing says that a call succeeds at last or that a trace ends. So such a loop counts its
-// turns down, from a number that no run uses up.
-pub(crate) const TURNS: u64 = u64::MAX;
+// rounds down, from a number that no run uses up.
+pub(crate) const TRIES: u64 = u64::MAX;
 
 // Is the call that answered so just now worth making again?
 fn again(answer: isize) -> bool {
@@ -33,10 +33,10 @@ pub(crate) fn read(fd: i32, buf: &mut [u8]) -> Got
     ensures { λ r. ⌜ r .count ≤ length (now (buf .exit)) ⌝ }
 {
     let mut got = libc::read(fd, buf);
-    let mut turns = TURNS;
-    while turns > 0 && again(got) {
+    let mut rounds = TRIES;
+    while rounds > 0 && again(got) {
         got = libc::read(fd, buf);
-        turns -= 1;
+        rounds -= 1;
     }
     Got {
         count: io::count(got, buf),
@@ -49,10 +49,10 @@ fn write_some(fd: i32, buf: &[u8]) -> usize
     ensures { λ r. ⌜ r ≤ length (now (buf .entry)) ⌝ }
 {
     let mut put = libc::write(fd, buf);
-    let mut turns = TURNS;
-    while turns > 0 && again(put) {
+    let mut rounds = TRIES;
+    while rounds > 0 && again(put) {
         put = libc::write(fd, buf);
-        turns -= 1;
+        rounds -= 1;
     }
     io::count(put, buf)
 }

@@ -1,8 +1,8 @@
-// That a run ended well, for who started the program. The language gives a program no exit status, so who wants one asks for a
-// mark by the first argument, and takes a run that leaves none for one that failed.
-ghost use Rattle.replay.specs.Turns.{Well};
+// The mark of a run that ended well. The language gives a program no exit status. So a caller that wants one asks for a mark by
+// the first argument, and takes a run without a mark for one that failed.
+ghost use Rattle.replay.specs.Rounds.{Well};
 use crate::descriptor::write;
-use crate::run::End;
+use crate::rounds::End;
 
 // Where the mark goes. Nothing is written there unasked, since it may be any file that the program was handed.
 const REPORT: i32 = 3;

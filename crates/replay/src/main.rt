@@ -3,14 +3,14 @@
 // went well. The program only moves bytes; what a record does and what a line says is decided in `steps`.
 mod descriptor;
 mod done;
-mod run;
+mod rounds;
 mod said;
 
-ghost use Rattle.replay.specs.Turns.{Finished};
+ghost use Rattle.replay.specs.Rounds.{Finished};
 use libc::STDIN_FILENO;
-use run::End;
-use run::run;
-use run::unread;
+use rounds::End;
+use rounds::replay_from;
+use rounds::unread;
 
 fn of_input() -> End
     ensures { λ r. ⌜ Finished r ⌝ }
@@ -18,7 +18,7 @@ fn of_input() -> End
     if libc::isatty(STDIN_FILENO) == 1 {
         said::waits();
     }
-    let end = run(STDIN_FILENO);
+    let end = replay_from(STDIN_FILENO);
     match end {
         End::Over => {}
         End::Unread => said::input_unread(),
@@ -51,7 +51,7 @@ fn of_file(place: usize) -> End
         said::file_unread(&mut path[..length]);
         return unread();
     }
-    let end = run(fd);
+    let end = replay_from(fd);
     match end {
         End::Over => {}
         End::Unread => said::file_unread(&mut path[..length]),

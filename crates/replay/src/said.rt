@@ -74,14 +74,14 @@ pub(crate) fn file_unread(path: &mut [u8]) {
     unread();
 }
 
-// For who started it with no file and wonders what it does.
+// Without a file it waits at a terminal in silence, unless it says so.
 pub(crate) fn waits() {
     say(
         b"replay: waits for a trace on standard input: name a file to replay that one, or end the input by Ctrl-D\n",
     );
 }
 
-// Progress is for who waits at a terminal and sees no lines come.
+// Progress is shown to a person at a terminal who sees no lines come.
 pub(crate) fn is_watched() -> bool {
     if libc::isatty(STDERR_FILENO) != 1 {
         return false;

@@ -1,4 +1,4 @@
--- `replay::descriptor::read` meets its contract, by what `io::count` ensures: the measure is the number of turns that are left.
+-- `replay::descriptor::read` meets its contract, by what `io::count` ensures: the measure is the number of rounds that are left.
 -- Assumes nothing.
 use mathlib.Core.Path.{_≡_}
 use borrow.Author.Needs.{needs}
@@ -7,10 +7,10 @@ use Rattle.replay.proofs.descriptor.read.Statement.{statement}
 use Rattle.replay.proofs.descriptor.read.Tie as tie
 
 abbrev Inv-loop : tie.InvT-loop
-Inv-loop fd buf₀ got₀ turns₀ buf got turns = length buf ≡ length buf₀
+Inv-loop fd buf₀ got₀ rounds₀ buf got rounds = length buf ≡ length buf₀
 
 abbrev μ-loop : tie.MeasureT-loop
-μ-loop fd buf₀ got₀ turns₀ buf got turns = turns
+μ-loop fd buf₀ got₀ rounds₀ buf got rounds = rounds
 
 read-requires : tie.Need-read-requires Inv-loop μ-loop
 read-requires c κs = search needs
@@ -24,8 +24,8 @@ again-requires c κs = search needs
 read-requires-2 : tie.Need-read-requires-2 Inv-loop μ-loop
 read-requires-2 c κs = search needs
 
-sub-turns : tie.Need-sub-turns Inv-loop μ-loop
-sub-turns c = search needs
+sub-rounds : tie.Need-sub-rounds Inv-loop μ-loop
+sub-rounds c = search needs
 
 loop-less : tie.Need-loop-less Inv-loop μ-loop
 loop-less c = search needs
@@ -52,7 +52,7 @@ read-spec =
     loop-holds
     again-requires
     read-requires-2
-    sub-turns
+    sub-rounds
     loop-less
     loop-again
     count-requires

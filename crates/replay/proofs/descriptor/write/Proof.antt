@@ -1,4 +1,4 @@
--- `replay::descriptor::write` is safe and ends: each turn writes a byte or is the last, so the measure is what is left.
+-- `replay::descriptor::write` is safe and ends: each round writes a byte or is the last, so the measure is what is left.
 -- Assumes nothing.
 use Prim.Native.Nat.{_≤_, _-_}
 use borrow.Author.Needs.{needs}

@@ -1,14 +1,14 @@
--- `replay::descriptor::write_some` meets its contract, by what `io::count` ensures: the measure is how many turns are left.
+-- `replay::descriptor::write_some` meets its contract, by what `io::count` ensures: the measure is how many rounds are left.
 -- Assumes nothing.
 use borrow.Author.Needs.{needs}
 use Rattle.replay.proofs.descriptor.write_some.Statement.{statement}
 use Rattle.replay.proofs.descriptor.write_some.Tie as tie
 
 abbrev Inv-loop : tie.InvT-loop
-Inv-loop fd buf put₀ turns₀ put turns = Unit {0}
+Inv-loop fd buf put₀ rounds₀ put rounds = Unit {0}
 
 abbrev μ-loop : tie.MeasureT-loop
-μ-loop fd buf put₀ turns₀ put turns = turns
+μ-loop fd buf put₀ rounds₀ put rounds = rounds
 
 write-requires : tie.Need-write-requires Inv-loop μ-loop
 write-requires c κs = search needs
@@ -22,8 +22,8 @@ again-requires c κs = search needs
 write-requires-2 : tie.Need-write-requires-2 Inv-loop μ-loop
 write-requires-2 c κs = search needs
 
-sub-turns : tie.Need-sub-turns Inv-loop μ-loop
-sub-turns c = search needs
+sub-rounds : tie.Need-sub-rounds Inv-loop μ-loop
+sub-rounds c = search needs
 
 loop-less : tie.Need-loop-less Inv-loop μ-loop
 loop-less c = search needs
@@ -47,7 +47,7 @@ write-some-spec =
     loop-holds
     again-requires
     write-requires-2
-    sub-turns
+    sub-rounds
     loop-less
     loop-again
     count-requires

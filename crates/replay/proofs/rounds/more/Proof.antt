@@ -4,10 +4,10 @@ use mathlib.Core.Path.{refl}
 use Prim.Native.Nat.{_-_}
 use lib.ListN.{length}
 use borrow.Rule.Slice.PartMut.{take-put}
-use Rattle.replay.proofs.Turning.{ends-so, unread-is-not-over, reads-so}
+use Rattle.replay.proofs.Round.{ends-so, unread-is-not-over, reads-so}
 use borrow.Author.Needs.{needs}
-use Rattle.replay.proofs.run.more.Statement.{statement}
-use Rattle.replay.proofs.run.more.Tie as tie
+use Rattle.replay.proofs.rounds.more.Statement.{statement}
+use Rattle.replay.proofs.rounds.more.Tie as tie
 
 sub-read : tie.Need-sub-read
 sub-read c = search needs
@@ -37,8 +37,8 @@ returns c =
 add-t9 : tie.Need-add-t9
 add-t9 c = search needs
 
-counted-requires : tie.Need-counted-requires
-counted-requires c κs = search needs
+total-with-requires : tie.Need-total-with-requires
+total-with-requires c κs = search needs
 
 same-length-2 : tie.Need-same-length-2
 same-length-2 c = search needs
@@ -61,6 +61,6 @@ more-spec =
     same-length
     returns
     add-t9
-    counted-requires
+    total-with-requires
     same-length-2
     returns-2)

@@ -1,21 +1,21 @@
--- `replay::run::run` is safe and ends: the measure is the number of turns that are left, and it stands well from turn to turn.
+-- `replay::run::run` is safe and ends: the measure is the number of rounds that are left, and it stands well from round to round.
 -- Assumes nothing.
 use mathlib.Core.Path.{_≡_, refl, sym}
 use Prim.Native.Nat.{zero-le}
 use lib.ListN.{length}
 use borrow.Author.Needs.{needs}
 use Rattle.rules.specs.Laws.Bools.{true-not-false}
-use Rattle.replay.specs.Turns.{Stands, Ends}
-use Rattle.replay.specs.Turns.Last.{last}
-use Rattle.replay.proofs.run.run.Statement.{statement}
-use Rattle.replay.proofs.run.run.Tie as tie
+use Rattle.replay.specs.Rounds.{Stands, Ends}
+use Rattle.replay.specs.Rounds.Last.{last}
+use Rattle.replay.proofs.rounds.replay_from.Statement.{statement}
+use Rattle.replay.proofs.rounds.replay_from.Tie as tie
 
 abbrev Inv-loop : tie.InvT-loop
-Inv-loop fd watched chunk₀ out₀ s₀ turns₀ chunk out s turns =
+Inv-loop fd watched chunk₀ out₀ s₀ rounds₀ chunk out s rounds =
     Stands s (length chunk) × (65536 ≡ length chunk) × (65536 ≡ length out) × Ends s
 
 abbrev μ-loop : tie.MeasureT-loop
-μ-loop fd watched chunk₀ out₀ s₀ turns₀ chunk out s turns = turns
+μ-loop fd watched chunk₀ out₀ s₀ rounds₀ chunk out s rounds = rounds
 
 is-watched-requires : tie.Need-is-watched-requires Inv-loop μ-loop
 is-watched-requires c κs = search needs
@@ -33,24 +33,24 @@ loop-holds : tie.Need-loop-holds Inv-loop μ-loop
 loop-holds c =
     ((c .beginning .ensures .1, zero-le), c .before .before .large-buffer .ensures, c .before .large-buffer2 .ensures, λ g. absurd (true-not-false refl g))
 
-slice-aggregate-turn : tie.Need-slice-aggregate-turn Inv-loop μ-loop
-slice-aggregate-turn c = c .before .before .before .loop .inv .1
+slice-aggregate-round : tie.Need-slice-aggregate-round Inv-loop μ-loop
+slice-aggregate-round c = c .before .before .before .loop .inv .1
 
-slice-aggregate-turn-2 : tie.Need-slice-aggregate-turn-2 Inv-loop μ-loop
-slice-aggregate-turn-2 c = c .before .before .before .before .loop .inv .2
+slice-aggregate-round-2 : tie.Need-slice-aggregate-round-2 Inv-loop μ-loop
+slice-aggregate-round-2 c = c .before .before .before .before .loop .inv .2
 
-turn-requires : tie.Need-turn-requires Inv-loop μ-loop
-turn-requires c κs = c .before .before .before .before .loop .inv .0
+round-requires : tie.Need-round-requires Inv-loop μ-loop
+round-requires c κs = c .before .before .before .before .loop .inv .0
 
-sub-turns : tie.Need-sub-turns Inv-loop μ-loop
-sub-turns c = search needs
+sub-rounds : tie.Need-sub-rounds Inv-loop μ-loop
+sub-rounds c = search needs
 
 loop-less : tie.Need-loop-less Inv-loop μ-loop
 loop-less c = search needs
 
 loop-again : tie.Need-loop-again Inv-loop μ-loop
 loop-again c =
-    (c .before .before .turn .ensures .stands, sym (c .before .chunk2 .given), sym (c .out2 .given), last (c .before .before .turn .ensures))
+    (c .before .before .round .ensures .stands, sym (c .before .chunk2 .given), sym (c .out2 .given), last (c .before .before .round .ensures))
 
 no-progress-requires : tie.Need-no-progress-requires Inv-loop μ-loop
 no-progress-requires c κs = search needs
@@ -61,8 +61,8 @@ ending-requires c κs = c .before .before .loop .inv .3
 returns : tie.Need-returns Inv-loop μ-loop
 returns c = search needs
 
-pub run-spec : {M : Type 1} → statement M
-run-spec =
+pub replay-from-spec : {M : Type 1} → statement M
+replay-from-spec =
     tie.close
     (tie.spec
     Inv-loop
@@ -72,10 +72,10 @@ run-spec =
     large-buffer-requires-2
     beginning-requires
     loop-holds
-    slice-aggregate-turn
-    slice-aggregate-turn-2
-    turn-requires
-    sub-turns
+    slice-aggregate-round
+    slice-aggregate-round-2
+    round-requires
+    sub-rounds
     loop-less
     loop-again
     no-progress-requires

@@ -6,8 +6,8 @@ use native.Mathlib.Nat.{le-trans, le-of-eq}
 use native.Mathlib.Omega.{arith}
 use lib.Seq.{length-take-le}
 use borrow.Author.Needs.{needs}
-use Rattle.replay.proofs.run.replayed.Statement.{statement}
-use Rattle.replay.proofs.run.replayed.Tie as tie
+use Rattle.replay.proofs.rounds.replayed.Statement.{statement}
+use Rattle.replay.proofs.rounds.replayed.Tie as tie
 
 slice-aggregate-feed : tie.Need-slice-aggregate-feed
 slice-aggregate-feed c = sym (length-take-le _ _ (c .before .before .before .before .pre .1))

@@ -1,10 +1,10 @@
 -- `replay::run::onward` meets its contract, pause by pause.
 -- Assumes nothing.
 use mathlib.Core.Path.{refl}
-use Rattle.replay.proofs.Turning.{ends-so, paused-so, stays-so}
+use Rattle.replay.proofs.Round.{ends-so, paused-so, stays-so}
 use borrow.Author.Needs.{needs}
-use Rattle.replay.proofs.run.onward.Statement.{statement}
-use Rattle.replay.proofs.run.onward.Tie as tie
+use Rattle.replay.proofs.rounds.onward.Statement.{statement}
+use Rattle.replay.proofs.rounds.onward.Tie as tie
 
 enum-told : tie.Need-enum-told
 enum-told c = search needs

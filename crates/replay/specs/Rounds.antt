@@ -1,6 +1,6 @@
--- What one turn of a run does with the bytes that wait in the chunk buffer and with its lines, and that a run of such turns
+-- What one round of a run does with the bytes that wait in the chunk buffer and with its lines, and that a run of such rounds
 -- prints what the whole trace prints. That the bytes which the writes took are those of the lines, and the bytes which the reads
--- brought those of the trace, is what `Ran` takes for granted; that they are as many is in `Turned`.
+-- brought those of the trace, is what `Ran` takes for granted; that they are as many is in `OneRound`.
 -- Assumes nothing.
 use mathlib.Core.Path.{_≡_, subst}
 use mathlib.Core.Bool.{true, false}
@@ -18,9 +18,9 @@ use Rattle.rules.specs.declared.replay.Fed.{Fed}
 use Rattle.rules.specs.declared.replay.Pause.{Pause}
 use Rattle.rules.specs.declared.replay.Pause.the-variants.{Over}
 use Rattle.steps.specs.Fed.{Feeds}
-use Rattle.replay.specs.declared.run.Standing.{Standing}
-use Rattle.replay.specs.declared.run.End.{End}
-use Rattle.replay.specs.declared.run.End.the-variants.{Over as EndOver, Unwritten}
+use Rattle.replay.specs.declared.rounds.Standing.{Standing}
+use Rattle.replay.specs.declared.rounds.End.{End}
+use Rattle.replay.specs.declared.rounds.End.the-variants.{Over as EndOver, Unwritten}
 
 -- ---- where a run stands: the bytes that wait are within the chunk buffer, of so much room
 abbrev pub Stands : Standing → ℕ → Type 0
@@ -33,7 +33,7 @@ waiting s chunk = take (s .filled) chunk
 abbrev pub Ended : End → Standing → Standing → Type 0
 Ended end s r = (r .replay ≡ s .replay) × (r .filled ≡ s .filled) × (r .put ≡ s .put) × (r .end ≡ end) × (r .going ≡ false)
 
--- ---- the steps of a turn
+-- ---- the steps of a round
 -- what it replays, with so much room for lines
 abbrev pub partOf : Standing → List ℕ → ℕ → Part
 partOf s chunk room = part (s .last) (waiting s chunk) room 0 (s .replay)
@@ -45,7 +45,7 @@ pub record Replayed (s : Standing) (chunk out₀ out : List ℕ) (f : Fed) : Typ
   pub inside : f .place ≤ s .filled
 
 -- what they leave waits at the front, and the writes took so many bytes
-pub record Carried (f : Fed) (taken : ℕ) (s : Standing) (chunk : List ℕ) (r : Standing) (after : List ℕ) : Type 0 where
+pub record LeftOver (f : Fed) (taken : ℕ) (s : Standing) (chunk : List ℕ) (r : Standing) (after : List ℕ) : Type 0 where
   pub same : r .replay ≡ f .replay
   pub stands : Stands r (length after)
   pub put : r .put ≡ taken
@@ -61,8 +61,8 @@ pub record Onward (pause : Pause) (s : Standing) (chunk : List ℕ) (r : Standin
   pub behind : waiting r after ≡ waiting s chunk ++ next
   pub ends : r .going ≡ false → r .end ≡ EndOver → pause ≡ Over
 
--- ---- a turn. Its writes took as many bytes as its lines have, or the run is over as one that could not write: none goes on
-pub record Turned (s : Standing) (chunk : List ℕ) (room : ℕ) (r : Standing) (after : List ℕ) : Type 0 where
+-- ---- a round. Its writes took as many bytes as its lines have, or the run is over as one that could not write: none goes on
+pub record OneRound (s : Standing) (chunk : List ℕ) (room : ℕ) (r : Standing) (after : List ℕ) : Type 0 where
   pub stands : Stands r (length after)
   pub puts : (r .going ≡ false → r .end ≡ Unwritten → ⊥) → r .put ≡ length (partOf s chunk room .bytes)
   pub replayed : r .replay ≡ partOf s chunk room .replay
@@ -71,9 +71,9 @@ pub record Turned (s : Standing) (chunk : List ℕ) (room : ℕ) (r : Standing) 
   pub ends : r .going ≡ false → r .end ≡ EndOver
       → pauseOf (s .last) (readAt (waiting s chunk) (partOf s chunk room .place)) (r .replay) ≡ Over
 
--- ---- how a run ended: well, as whoever started it is told, only by a last turn, in which the replay was over
+-- ---- how a run ended: well, as whoever started it is told, only by a last round, in which the replay was over
 pub data Last : End → Type 0 where
-  last : {s r : Standing} {chunk after : List ℕ} {room : ℕ} → Turned s chunk room r after → r .going ≡ false → Last (r .end)
+  last : {s r : Standing} {chunk after : List ℕ} {room : ℕ} → OneRound s chunk room r after → r .going ≡ false → Last (r .end)
 
 abbrev pub Ends : Standing → Type 0
 Ends s = s .going ≡ false → Last (s .end)
@@ -84,16 +84,16 @@ Finished end = end ≡ EndOver → Last end
 abbrev pub Well : End → Type 0
 Well end = (end ≡ EndOver) × Last end
 
--- ---- a run: turns with any room, each of which goes on, up to one that ends well. The bytes that are read make up the rest of the trace, of which
+-- ---- a run: rounds with any room, each of which goes on, up to one that ends well. The bytes that are read make up the rest of the trace, of which
 -- none is left once a read said that it is at the end; the lines that are written make up what is printed
 pub data Ran : Standing → List ℕ → List ℕ → List ℕ → Type 0 where
-  on : {s r : Standing} {chunk after later out : List ℕ} {room : ℕ} (t : Turned s chunk room r after)
+  on : {s r : Standing} {chunk after later out : List ℕ} {room : ℕ} (t : OneRound s chunk room r after)
       → r .going ≡ true → (s .last ≡ true → t .next ++ later ≡ []) → Ran r after later out
       → Ran s chunk (t .next ++ later) (partOf s chunk room .bytes ++ out)
-  end : {s r : Standing} {chunk after later : List ℕ} {room : ℕ} → Turned s chunk room r after → (s .last ≡ true → later ≡ [])
+  end : {s r : Standing} {chunk after later : List ℕ} {room : ℕ} → OneRound s chunk room r after → (s .last ≡ true → later ≡ [])
       → r .going ≡ false → r .end ≡ EndOver → Ran s chunk later (partOf s chunk room .bytes ++ [])
 
--- a turn is a feed and more bytes, and the last one a feed and the end
+-- a round is a feed and more bytes, and the last one a feed and the end
 ran-plays : {s : Standing} {chunk later out : List ℕ} → Ran s chunk later out → Played (s .replay) (waiting s chunk) 0 later out
 ran-plays (on {s} {r} {chunk} {after} {later} {out} {room} t going none rest) =
     let here : List ℕ = drop (partOf s chunk room .place) (waiting s chunk) ++ t .next in

@@ -1,5 +1,5 @@
--- What the proofs of a turn share, stated of plain values: a run that ends, a read behind the bytes that wait, what is left
--- at the front, and a turn of these.
+-- What the proofs of a round share, stated of plain values: a run that ends, a read behind the bytes that wait, what is left
+-- at the front, and a round of these.
 -- Assumes nothing.
 use mathlib.Core.Path.{_≡_, refl, sym, ap, subst, _∙_}
 use mathlib.Core.Bool.{true, false}
@@ -14,10 +14,10 @@ use Rattle.rules.specs.Invariant.{Playing}
 use Rattle.rules.specs.declared.replay.Fed.{Fed}
 use Rattle.rules.specs.declared.replay.Pause.{Pause}
 use Rattle.rules.specs.declared.replay.Pause.the-variants.{Over, Bytes}
-use Rattle.replay.specs.Turns.{Stands, waiting, Ended, partOf, Replayed, Carried, Onward, Turned, Finished}
-use Rattle.replay.specs.declared.run.Standing.{Standing}
-use Rattle.replay.specs.declared.run.End.{End}
-use Rattle.replay.specs.declared.run.End.the-variants.{Over as EndOver, Unread, Unwritten}
+use Rattle.replay.specs.Rounds.{Stands, waiting, Ended, partOf, Replayed, LeftOver, Onward, OneRound, Finished}
+use Rattle.replay.specs.declared.rounds.Standing.{Standing}
+use Rattle.replay.specs.declared.rounds.End.{End}
+use Rattle.replay.specs.declared.rounds.End.the-variants.{Over as EndOver, Unread, Unwritten}
 
 -- a run that ends keeps what it has
 pub ends-so : {pause : Pause} {s r : Standing} {e : End} (chunk after : List ℕ) → Stands s (length chunk)
@@ -41,7 +41,7 @@ unread-is-not-over e = cc
 pub unwritten-is-not-over : {pause : Pause} → Unwritten ≡ EndOver → pause ≡ Over
 unwritten-is-not-over e = cc
 
--- so nothing has to be shown of the last turn of one that could not read
+-- so nothing has to be shown of the last round of one that could not read
 pub unread-is-finished : Finished Unread
 unread-is-finished e =
     let no : true ≡ false = cc in
@@ -88,12 +88,12 @@ left-in-front chunk after from to h l e =
     ap (take n) e ∙ take-at part (drop n chunk) n (length-take-le n (drop from chunk) (rw length-drop (omega arith)))
     ∙ sym (ap (drop from) cut ∙ drop-at (take from chunk) part from (length-take-le from chunk (omega arith)))
 
--- a turn of its steps
-pub turns : {s a r : Standing} {chunk mid after out₀ out : List ℕ} {f : Fed} {taken : ℕ} → Replayed s chunk out₀ out f
-    → Carried f taken s chunk a mid → Onward (f .pause) a mid r after → ((r .going ≡ false → r .end ≡ Unwritten → ⊥) → taken ≡ f .count)
-    → Turned s chunk (length out₀) r after
+-- a round of its steps
+pub rounds : {s a r : Standing} {chunk mid after out₀ out : List ℕ} {f : Fed} {taken : ℕ} → Replayed s chunk out₀ out f
+    → LeftOver f taken s chunk a mid → Onward (f .pause) a mid r after → ((r .going ≡ false → r .end ≡ Unwritten → ⊥) → taken ≡ f .count)
+    → OneRound s chunk (length out₀) r after
 unfolding fed
-turns {s} {a} {r} {chunk} {mid} {after} {out₀} p k o all-taken =
+rounds {s} {a} {r} {chunk} {mid} {after} {out₀} p k o all-taken =
     let all : r .replay ≡ partOf s chunk (length out₀) .replay = o .same ∙ k .same ∙ ap (λ (f : Fed). f .replay) (p .feeds .answers) in
     let left = k .left ∙ ap (λ (f : Fed). drop (f .place) (waiting s chunk)) (p .feeds .answers) in
     record {

@@ -1,18 +1,18 @@
-// The loop: bytes come in and lines go out, turn by turn, in two buffers of a fixed size, however long the trace is. All
+// The loop: bytes come in and lines go out, round by round, in two buffers of a fixed size, however long the trace is. All
 // lines are written before the next read, which may wait.
 //
-// Proved is each turn (`specs/Turns`): what it replays, which lines then stand at the front of the line buffer, that it goes on
+// Proved is each round (`specs/Rounds`): what it replays, which lines then stand at the front of the line buffer, that it goes on
 // only where its writes took as many bytes as these lines have, what waits after it, and that a run ends well only where the
 // replay is over. No contract can say which bytes a write takes or a read brings. So three things are for a person to read:
-// that `turn` hands `write` the front of the line buffer, that `descriptor::write` and `read` hand the system what they are
-// lent, and that `run` begins at the beginning and goes from turn to turn.
+// that `round` hands `write` the front of the line buffer, that `descriptor::write` and `read` hand the system what they are
+// lent, and that `replay_from` begins at the beginning and goes from round to round.
 ghost use mathlib.Core.Path.{_≡_};
 ghost use mathlib.Core.Bool.{true};
 ghost use Prim.Native.Nat.{_≤_};
 ghost use lib.ListN.{length};
 ghost use Rattle.rules.specs.Invariant.{Playing};
-ghost use Rattle.replay.specs.Turns.{Stands, Ended, Replayed, Carried, Onward, Turned, Ends, Finished};
-use crate::descriptor::TURNS;
+ghost use Rattle.replay.specs.Rounds.{Stands, Ended, Replayed, LeftOver, Onward, OneRound, Ends, Finished};
+use crate::descriptor::TRIES;
 use crate::descriptor::read;
 use crate::descriptor::write;
 use crate::said;
@@ -32,7 +32,7 @@ pub(crate) enum End {
 }
 
 // Where a run stands. The first `filled` bytes of the chunk buffer wait to be replayed, and if `last`, no more will come
-// after them; `total` bytes were read so far, and the writes of the last turn took `put` bytes of its lines.
+// after them; `total` bytes were read so far, and the writes of the last round took `put` bytes of its lines.
 pub(crate) struct Standing {
     pub replay: Replay,
     pub filled: usize,
@@ -62,8 +62,8 @@ fn wide(n: usize) -> u64 {
     n as u64
 }
 
-// How many bytes were read with those that came now, which who watches is told.
-fn counted(total: u64, count: usize, watched: bool) -> u64 {
+// How many bytes were read, with those that came now. A person at a terminal is shown it.
+fn total_with(total: u64, count: usize, watched: bool) -> u64 {
     let total = std::num::wrapping_add_u64(total, wide(count));
     if watched {
         said::progress(total);
@@ -86,7 +86,7 @@ fn more(s: Standing, fd: i32, watched: bool, chunk: &mut [u8]) -> Standing
         replay,
         filled: filled + got.count,
         last: got.count == 0,
-        total: counted(s.total, got.count, watched),
+        total: total_with(s.total, got.count, watched),
         put: s.put,
         going: true,
         end: End::Over,
@@ -104,7 +104,7 @@ fn onward(pause: Pause, s: Standing, fd: i32, watched: bool, chunk: &mut [u8]) -
     }
 }
 
-// Before lines come, who watches sees no progress any more.
+// Progress is cleared from a terminal before lines are written.
 fn cleared(count: usize, total: u64, watched: bool) {
     if watched & (0 < count) {
         said::no_progress(total);
@@ -122,9 +122,9 @@ fn replayed(s: Standing, chunk: &[u8], out: &mut [u8]) -> Fed
 }
 
 // What they leave goes to the buffer's front.
-fn carried(fed: Fed, put: usize, s: Standing, chunk: &mut [u8]) -> Standing
+fn left_over(fed: Fed, put: usize, s: Standing, chunk: &mut [u8]) -> Standing
     requires { ⌜ Playing (fed .replay) × (fed .place ≤ s .filled) × (s .filled ≤ length (now chunk)) ⌝ }
-    ensures { λ r. ⌜ Carried fed put s (now (chunk .entry)) r (now (chunk .exit)) ⌝ }
+    ensures { λ r. ⌜ LeftOver fed put s (now (chunk .entry)) r (now (chunk .exit)) ⌝ }
 {
     let replay = fed.replay;
     Standing {
@@ -138,16 +138,16 @@ fn carried(fed: Fed, put: usize, s: Standing, chunk: &mut [u8]) -> Standing
     }
 }
 
-// One turn: what waits is replayed, its lines are written, and more is read if that is what the replay wants.
-fn turn(s: Standing, fd: i32, watched: bool, chunk: &mut [u8], out: &mut [u8]) -> Standing
+// One round: what waits is replayed, its lines are written, and more is read if that is what the replay wants.
+fn round(s: Standing, fd: i32, watched: bool, chunk: &mut [u8], out: &mut [u8]) -> Standing
     requires { ⌜ Stands s (length (now chunk)) ⌝ }
-    ensures { λ r. ⌜ Turned s (now (chunk .entry)) (length (now (out .entry))) r (now (chunk .exit)) ⌝ }
+    ensures { λ r. ⌜ OneRound s (now (chunk .entry)) (length (now (out .entry))) r (now (chunk .exit)) ⌝ }
 {
     let fed = replayed(s, chunk, out);
     let count = fed.count;
     cleared(count, s.total, watched);
     let put = write(STDOUT_FILENO, &out[0..count]);
-    let after = carried(fed, put, s, chunk);
+    let after = left_over(fed, put, s, chunk);
     if put < count {
         return ended(after, End::Unwritten);
     }
@@ -174,7 +174,7 @@ fn ending(s: Standing) -> End
     end
 }
 
-pub(crate) fn run(fd: i32) -> End
+pub(crate) fn replay_from(fd: i32) -> End
     ensures { λ r. ⌜ Finished r ⌝ }
 {
     let watched = said::is_watched();
@@ -189,10 +189,10 @@ pub(crate) fn run(fd: i32) -> End
         going: true,
         end: End::Over,
     };
-    let mut turns = TURNS;
-    while turns > 0 && s.going {
-        s = turn(s, fd, watched, &mut chunk, &mut out);
-        turns -= 1;
+    let mut rounds = TRIES;
+    while rounds > 0 && s.going {
+        s = round(s, fd, watched, &mut chunk, &mut out);
+        rounds -= 1;
     }
     if watched {
         said::no_progress(s.total);

@@ -1,8 +1,8 @@
--- `replay::run::ending` meets its contract: where the run goes on no more, its last turn ended it.
+-- `replay::run::ending` meets its contract: where the run goes on no more, its last round ended it.
 -- Assumes nothing.
 use borrow.Author.Needs.{needs}
-use Rattle.replay.proofs.run.ending.Statement.{statement}
-use Rattle.replay.proofs.run.ending.Tie as tie
+use Rattle.replay.proofs.rounds.ending.Statement.{statement}
+use Rattle.replay.proofs.rounds.ending.Tie as tie
 
 unread-requires : tie.Need-unread-requires
 unread-requires c κs = search needs

@@ -1,13 +1,13 @@
--- `replay::run::carried` meets its contract, by what `carry` ensures.
+-- `replay::run::left-over` meets its contract, by what `carry` ensures.
 -- Assumes nothing.
 use mathlib.Core.Path.{refl, ap, _∙_}
 use Prim.Native.Nat.{ℕ}
 use native.Mathlib.Omega.{arith}
 use lib.ListN.{take}
-use Rattle.replay.proofs.Turning.{left-in-front}
+use Rattle.replay.proofs.Round.{left-in-front}
 use borrow.Author.Needs.{needs}
-use Rattle.replay.proofs.run.carried.Statement.{statement}
-use Rattle.replay.proofs.run.carried.Tie as tie
+use Rattle.replay.proofs.rounds.left_over.Statement.{statement}
+use Rattle.replay.proofs.rounds.left_over.Tie as tie
 
 carry-requires : tie.Need-carry-requires
 carry-requires c κs = search needs
@@ -28,5 +28,5 @@ returns c =
       left = cut ∙ left-in-front _ _ _ _ (p .1) (p .2) (k .1);
     }
 
-pub carried-spec : {M : Type 1} → statement M
-carried-spec = tie.close (tie.spec carry-requires same-length returns)
+pub left-over-spec : {M : Type 1} → statement M
+left-over-spec = tie.close (tie.spec carry-requires same-length returns)
