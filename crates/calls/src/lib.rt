@@ -22,6 +22,7 @@ use rules::replay::Ran;
 use rules::replay::Setting;
 use rules::trace::Read;
 use rules::trace::Record;
+use submit::Queueing;
 use submit::Shares;
 use submit::View;
 
@@ -141,8 +142,8 @@ pub fn run(mut c: Controller, trace: &[u8], place: usize, most: usize, out: &mut
                 };
             }
             Call::Bio(bio) => {
-                // On the usual path one row and one queue change where they stand; where shares change, the state is
-                // handed through.
+                // On the usual path a row changes where it stands, and a queue that the bio joins; where shares change,
+                // the state is handed through.
                 let node = submit::place_of(bio);
                 let model = c.model;
                 let share = c.shares[node];
@@ -155,16 +156,20 @@ pub fn run(mut c: Controller, trace: &[u8], place: usize, most: usize, out: &mut
                     model,
                     share,
                     row,
-                    queue,
+                    waiting: queue.len,
                 };
                 let decided = submit::decide(bio, node, view);
                 let mut answer = decided.answer;
                 let shares = decided.shares;
                 if let Shares::Stand = shares {
                     let next = decided.row;
-                    let queued = decided.queue;
                     c.rows[node] = next;
-                    c.queues[node] = queued;
+                    let queueing = decided.queue;
+                    if let Queueing::Joins(cost) = queueing {
+                        let queue = c.queues[node];
+                        let longer = submit::joined(bio.id, cost, queue);
+                        c.queues[node] = longer;
+                    }
                 } else {
                     let done = submit::submit(c, bio);
                     answer = done.answer;

@@ -9,18 +9,18 @@ use Prim.Native.Nat.{ℕ, _*_, _≤_, _<_}
 use native.Mathlib.Nat.{mul-le-mul, le-trans}
 use native.Mathlib.Omega.{arith}
 use lib.Dec.{ltb}
-use lib.ListN.{getD}
+use lib.ListN.{getD, set}
 use lib.Seq.{set-getD}
 use types.Run.{OneOf}
 use denote.Enum.Declared.{tagOf}
 use borrow.Author.Tests.{lt-ltb, le-ltb, ltb-true, ltb-false}
-use Rattle.rules.specs.Numbers.{nodesMost, costMost}
+use Rattle.rules.specs.Numbers.{nodesMost, queueRoom}
 use Rattle.rules.specs.Words.{has}
 use Rattle.rules.specs.Cost.{bioInRange}
 use Rattle.rules.specs.Tree.{isLeaf}
-use Rattle.rules.specs.Budget.{emptyRow, emptyQueue, rowAt, queueAt, shareAt, putLeaf, rebased, entered, endsDonation}
+use Rattle.rules.specs.Budget.{emptyRow, emptyQueue, rowAt, queueAt, shareAt, withBooks, putLeaf, pushed, rebased, entered, endsDonation}
 use Rattle.rules.specs.Entries.{costing, submitted}
-use Rattle.rules.specs.Invariant.{worthMost, Sound, SoundModel, SoundTree, Within}
+use Rattle.rules.specs.Invariant.{worthMost, Sound, SoundQueue, SoundModel, SoundTree, Within}
 use Rattle.rules.specs.Laws.Bools.{never, is-false}
 use Rattle.rules.specs.Laws.Trees.{leaves-are, root-no-leaf}
 use Rattle.rules.specs.Laws.Submits.{put-each}
@@ -44,14 +44,15 @@ use Rattle.rules.specs.declared.refusals.Answer.{Answer}
 use Rattle.rules.specs.declared.refusals.Answer.the-variants.{Refused as Declined}
 use Rattle.leaf.specs.Alone.{counted}
 use Rattle.leaf.specs.Fit.{active-is-fit}
+use Rattle.submit.specs.declared.Queueing.the-variants.{Stays, Joins}
 use Rattle.submit.specs.declared.Judged.{Judged}
 use Rattle.submit.specs.declared.View.{View}
 use Rattle.submit.specs.declared.Shares.{Shares}
 use Rattle.submit.specs.declared.Shares.the-variants.{Stand, Activate, Return}
 use Rattle.submit.specs.declared.Decision.{Decision}
-use Rattle.submit.specs.OnLeaf.{CanJudge, onLeaf}
+use Rattle.submit.specs.OnLeaf.{CanJudge, queued, onLeaf}
 use Rattle.submit.proofs.Shares.{the-type}
-use Rattle.submit.proofs.Shapes.{leaf-node, at-node, found, model-is-sound, no-leaf, unfit, Ready, ready-there, landed, submits, no-budget-gained, wakes, woken-within}
+use Rattle.submit.proofs.Shapes.{leaf-node, at-node, found, model-is-sound, no-leaf, unfit, Ready, ready-there, landed, submits, no-budget-gained, joins-with-room, wakes, woken-within}
 use Rattle.submit.specs.Decision.{placeOf, viewAt, CanDecide, sharesAfter, declined, activates, judgedAt, decisionBy, decision}
 
 -- ---- the code's own steps
@@ -70,19 +71,22 @@ module _ (b : Bio) (n : ℕ) (v : View) where
       unfolding decision decisionBy
       activates-first o = rw (sym e ∙ q, sym c ∙ i, sym a ∙ o)
 
-      pub can-judge-there : CanDecide n v → u ≡ true → {share : ℕ} → share ≡ v .share → CanJudge b cost share (v .row) (v .queue)
+      pub can-judge-there : CanDecide n v → u ≡ true → {share : ℕ} → share ≡ v .share → CanJudge b cost share (v .row)
       can-judge-there can o s =
           let known = costing-costs-exactly-when (v .model) (v .row) b cost .0 (sym c ∙ i) in
-          rw s (record { fit = can .fit (sym a ∙ o); range = bio-in-range b .1 (known .0 .0); cheap = rw (known .1) (known .0 .1) })
+          rw s (record { books = can .fit (sym a ∙ o); range = bio-in-range b .1 (known .0 .0); cheap = rw (known .1) (known .0 .1) })
 
-      pub judges : {share : ℕ} {j : Judged} {s : Shares} → u ≡ true → share ≡ v .share → j ≡ onLeaf b cost share (v .row) (v .queue)
+      pub judges : {share : ℕ} {j : Judged} {s : Shares} → u ≡ true → share ≡ v .share → j ≡ onLeaf b cost share (v .row) (v .waiting)
           → s ≡ sharesAfter (j .answer) (v .donors) n
           → _≡_ {A = Decision} (record { answer = j .answer; shares = s; row = j .row; queue = j .queue }) (decision b n v)
       unfolding decision decisionBy
       judges o h l s = rw (sym e ∙ q, sym c ∙ i, sym a ∙ o, s, l, h)
 
 -- ---- what a state shows
--- an element read past a queue's end would be empty, as the code reads it; inside it makes no difference
+-- an element read past the queues' end would be another empty one; inside it makes no difference
+pub queue-read : {c : Controller} → Sound c → {n : ℕ} → n < nodesMost → getD (c .queues) n (counted 0) ≡ queueAt c n
+queue-read {c} s {n} h = getD-inside (c .queues) n (counted 0) emptyQueue (omega (arith, s .queues-all, h))
+
 pub seen : {c : Controller} → Sound c → {n : ℕ} → n < nodesMost → _≡_ {A = View} (record {
   leaves = c .leaves;
   active = c .active;
@@ -90,13 +94,13 @@ pub seen : {c : Controller} → Sound c → {n : ℕ} → n < nodesMost → _≡
   model = c .model;
   share = shareAt c n;
   row = rowAt c n;
-  queue = getD (c .queues) n (counted 0);
+  waiting = getD (c .queues) n (counted 0) .len;
 })
     (viewAt n c)
-seen {c} s {n} h = rw (getD-inside (c .queues) n (counted 0) emptyQueue (omega (arith, s .queues-all, h)))
+seen s h = rw (queue-read s h)
 
 pub can-decide : {c : Controller} → Sound c → {n : ℕ} → n < nodesMost → CanDecide n (viewAt n c)
-can-decide {c} s {n} h = record { place = h; model = model-is-sound s; fit = active-is-fit s n }
+can-decide {c} s {n} h = record { place = h; model = model-is-sound s; fit = λ a. active-is-fit s n a .books }
 
 -- ---- the bio's place
 module _ (b : Bio) where
@@ -139,48 +143,62 @@ returned Stand c = c
 returned Activate c = c
 returned Return c = rebased (c .active) c
 
-abbrev pub carried : ℕ → Decision → Controller → Submitted
-carried n r c = record { answer = r .answer; state = returned (r .shares) (putLeaf n (r .row) (r .queue) c) }
+abbrev pub carried : Bio → ℕ → Decision → Controller → Submitted
+carried b n r c =
+    record { answer = r .answer; state = returned (r .shares) (putLeaf n (r .row) (queued (r .queue) (b .id) (queueAt c n)) c) }
 
-module _ (r : Decision) (n : ℕ) (c : Controller) where
-  pub returning : {d : Controller} → r .shares ≡ Return → d ≡ rebased (c .active) (putLeaf n (r .row) (r .queue) c)
-      → _≡_ {A = Submitted} (record { answer = r .answer; state = d }) (carried n r c)
-  unfolding returned
-  returning e i = rw (e, i)
+-- the leaf's books, as the code puts them back: the queue only where the bio joins it
+module _ (b : Bio) (r : Decision) (n : ℕ) (c : Controller) where
+  abbrev Put : Controller → Type 0
+  Put d = d ≡ putLeaf n (r .row) (queued (r .queue) (b .id) (queueAt c n)) c
 
-  pub staying : OneOf (0 ∷ 1 ∷ []) (tagOf the-type (r .shares))
-      → _≡_ {A = Submitted} (record { answer = r .answer; state = putLeaf n (r .row) (r .queue) c }) (carried n r c)
+  pub joining : {cost : Abs} {q : Queue} → r .queue ≡ Joins cost → q ≡ pushed (b .id) cost (queueAt c n) → Put (putLeaf n (r .row) q c)
+  unfolding queued
+  joining e i = rw (e, i)
+
+  pub as-it-was : r .queue ≡ Stays → Put (withBooks (set (c .rows) n (r .row)) (c .queues) c)
+  unfolding queued
+  as-it-was e = rw (e, set-getD (c .queues) n emptyQueue)
+
+module _ (b : Bio) (r : Decision) (n : ℕ) (c : Controller) {p : Controller} (q : p ≡ putLeaf n (r .row) (queued (r .queue) (b .id) (queueAt c n)) c) where
+  pub returning : {d : Controller} → r .shares ≡ Return → d ≡ rebased (p .active) p
+      → _≡_ {A = Submitted} (record { answer = r .answer; state = d }) (carried b n r c)
   unfolding returned
-  staying = go (r .shares)
+  returning e i = rw (e, i, q)
+
+  pub staying : OneOf (0 ∷ 1 ∷ []) (tagOf the-type (r .shares)) → _≡_ {A = Submitted} (record { answer = r .answer; state = p }) (carried b n r c)
+  unfolding returned
+  staying k = rw q (go (r .shares) k)
     where
-      go : (s : Shares) → OneOf (0 ∷ 1 ∷ []) (tagOf the-type s) → _≡_ {A = Submitted} (record { answer = r .answer; state = putLeaf n (r .row) (r .queue) c })
-          (record { answer = r .answer; state = returned s (putLeaf n (r .row) (r .queue) c) })
+      go : (s : Shares) → OneOf (0 ∷ 1 ∷ []) (tagOf the-type s)
+          → _≡_ {A = Submitted} (record { answer = r .answer; state = putLeaf n (r .row) (queued (r .queue) (b .id) (queueAt c n)) c })
+          (record { answer = r .answer; state = returned s (putLeaf n (r .row) (queued (r .queue) (b .id) (queueAt c n)) c) })
       go Stand k = refl
       go Activate k = refl
       go Return (inl e) = absurd (omega arith)
       go Return (inr e) = absurd (omega arith)
 
-module _ (c : Controller) (n : ℕ) where
+module _ (b : Bio) (c : Controller) (n : ℕ) where
   -- a row and a queue put back as they were
   put-back : putLeaf n (rowAt c n) (queueAt c n) c ≡ c
   put-back = rw (set-getD (c .rows) n emptyRow, set-getD (c .queues) n emptyQueue)
 
-  declined-carried : (x : Refusal) → carried n (declined x (viewAt n c)) c ≡ record { answer = Declined x; state = c }
-  unfolding returned
+  declined-carried : (x : Refusal) → carried b n (declined x (viewAt n c)) c ≡ record { answer = Declined x; state = c }
+  unfolding returned queued
   declined-carried x = rw put-back
 
-  judged-carried : (j : Judged) → carried n (judgedAt n (viewAt n c) j) c ≡ landed n j c
+  judged-carried : (j : Judged) → carried b n (judgedAt n (viewAt n c) j) c ≡ landed b n j c
   unfolding returned sharesAfter
-  judged-carried j = go (endsDonation (j .answer) && has (c .donors) n)
+  judged-carried j = go (endsDonation (j .answer) && has (c .donors) n) (putLeaf n (j .row) (queued (j .queue) (b .id) (queueAt c n)) c)
     where
-      go : (t : Bool) → _≡_ {A = Submitted} (record { answer = j .answer; state = returned (cond t Return Stand) (putLeaf n (j .row) (j .queue) c) })
-          (record { answer = j .answer; state = cond t (rebased (c .active) (putLeaf n (j .row) (j .queue) c)) (putLeaf n (j .row) (j .queue) c) })
-      go true = refl
-      go false = refl
+      go : (t : Bool) (after : Controller) → _≡_ {A = Submitted} (record { answer = j .answer; state = returned (cond t Return Stand) after })
+          (record { answer = j .answer; state = cond t (rebased (after .active) after) after })
+      go true after = refl
+      go false after = refl
 
 -- in a state in which its leaf is active, the bio is judged
 judged-there : {b : Bio} {cost : Abs} {d : Controller} → Ready b cost d → {n : ℕ} → n ≡ b .node
-    → decision b n (viewAt n d) ≡ judgedAt n (viewAt n d) (onLeaf b cost (shareAt d n) (rowAt d n) (queueAt d n))
+    → decision b n (viewAt n d) ≡ judgedAt n (viewAt n d) (onLeaf b cost (shareAt d n) (rowAt d n) (queueAt d n .len))
 judged-there {b} {cost} {d} ready {n} m =
     let leaf : has (d .leaves) n ≡ true =
     rw m (ap (λ (l : ℕ). has l (b .node)) (ready .sound .leaves) ∙ leaves-are (ready .sound .tree) (b .node) ∙ ready .sound .active (b .node) (ready .active)) in
@@ -194,11 +212,11 @@ judged-there {b} {cost} {d} ready {n} m =
 module _ {c : Controller} (s : Sound c) (b : Bio) (leaf : isLeaf (c .tree) (b .node) ≡ true) (cost : Abs)
     (costs : costing (c .model) (rowAt c (b .node)) b ≡ Costs cost) {n : ℕ} (m : n ≡ b .node)
   where
-    lands : {d : Controller} → d ≡ entered n c → carried n (decision b n (viewAt n d)) d ≡ submitted b c
+    lands : {d : Controller} → d ≡ entered n c → carried b n (decision b n (viewAt n d)) d ≡ submitted b c
     lands {d} i =
         let ready : Ready b cost d = ready-there s b leaf cost costs m i in
-        ap (λ (q : Decision). carried n q d) (judged-there ready m)
-        ∙ judged-carried d n (onLeaf b cost (shareAt d n) (rowAt d n) (queueAt d n))
+        ap (λ (q : Decision). carried b n q d) (judged-there ready m)
+        ∙ judged-carried b d n (onLeaf b cost (shareAt d n) (rowAt d n) (queueAt d n .len))
         ∙ submits s b leaf cost costs m i refl refl refl
 
 -- ---- which views have the leaf become active
@@ -222,7 +240,7 @@ module _ (b : Bio) (n : ℕ) (v : View) (i : decision b n v .shares ≡ Activate
     where
       awake : has (v .leaves) n ≡ true → (cost : Abs) → costing (v .model) (v .row) b ≡ Costs cost → (u : Bool) → has (v .active) n ≡ u → Activating b n v
       awake l cost e true o =
-          never (judged-stays (onLeaf b cost (v .share) (v .row) (v .queue) .answer) (v .donors) n
+          never (judged-stays (onLeaf b cost (v .share) (v .row) (v .waiting) .answer) (v .donors) n
           (ap (λ (q : Decision). q .shares) (judges b n v refl l refl e refl o refl refl refl) ∙ i))
       awake l cost e false o = record { leaf = l; cost = cost; costs = e; off = o }
 
@@ -241,8 +259,8 @@ unfolding decision decisionBy
 no-budget-decided b n v = go (has (v .leaves) n)
   where
     awake : (cost : Abs) (u : Bool)
-        → cond u (judgedAt n v (onLeaf b cost (v .share) (v .row) (v .queue))) (activates v) .row .budget .0 ≤ v .row .budget .0
-    awake cost true = no-budget-gained b cost (v .share) (v .row) (v .queue)
+        → cond u (judgedAt n v (onLeaf b cost (v .share) (v .row) (v .waiting))) (activates v) .row .budget .0 ≤ v .row .budget .0
+    awake cost true = no-budget-gained b cost (v .share) (v .row) (v .waiting)
     awake cost false = omega arith
 
     costed : (k : Costing) → decisionBy k b n v .row .budget .0 ≤ v .row .budget .0
@@ -252,6 +270,24 @@ no-budget-decided b n v = go (has (v .leaves) n)
     go : (t : Bool) → cond t (decisionBy (costing (v .model) (v .row) b) b n v) (declined NoLeaf v) .row .budget .0 ≤ v .row .budget .0
     go true = costed (costing (v .model) (v .row) b)
     go false = omega arith
+
+-- a bio joins a queue only where that has room
+joins-room : (b : Bio) (n : ℕ) (v : View) (k : Abs) → decision b n v .queue ≡ Joins k → v .waiting < queueRoom
+unfolding decision decisionBy
+joins-room b n v k = go (has (v .leaves) n)
+  where
+    awake : (cost : Abs) (u : Bool)
+        → cond u (judgedAt n v (onLeaf b cost (v .share) (v .row) (v .waiting))) (activates v) .queue ≡ Joins k → v .waiting < queueRoom
+    awake cost true e = joins-with-room b cost (v .share) (v .row) (v .waiting) k e
+    awake cost false e = never (cc)
+
+    costed : (x : Costing) → decisionBy x b n v .queue ≡ Joins k → v .waiting < queueRoom
+    costed (Costs cost) e = awake cost (has (v .active) n) e
+    costed (Uncosted x) e = never (cc)
+
+    go : (t : Bool) → cond t (decisionBy (costing (v .model) (v .row) b) b n v) (declined NoLeaf v) .queue ≡ Joins k → v .waiting < queueRoom
+    go true e = costed (costing (v .model) (v .row) b) e
+    go false e = never (cc)
 
 not-active : OneOf (0 ∷ 2 ∷ []) (tagOf the-type Activate) → _≡_ {A = ℕ} 0 1
 not-active (inl e) = absurd (omega arith)
@@ -265,43 +301,52 @@ module _ {c : Controller} (s : Sound c) (b : Bio) {n : ℕ} (p : n ≡ placeOf b
   leaf-is : has (c .leaves) n ≡ isLeaf (c .tree) (b .node)
   leaf-is = rw p (is-leaf b s)
 
-  pub can-return : SoundTree (c .tree) × Within (c .tree) (c .active)
-      × ((k : ℕ) → rowAt (putLeaf n (r .row) (r .queue) c) k .budget .0 * shareAt c k ≤ worthMost)
-  can-return =
-      let less : r .row .budget .0 ≤ rowAt c n .budget .0 = rw e (no-budget-decided b n (viewAt n c)) in (
+  -- the queue that a bio joins, as the code reads it
+  pub can-join : {k : Abs} → r .queue ≡ Joins k
+      → SoundQueue (getD (c .queues) n (counted 0)) × (getD (c .queues) n (counted 0) .len < queueRoom)
+  can-join {k} i =
+      rw (queue-read s (at-node p (place-inside b)))
+      (s .queue n, joins-room b n (viewAt n c) k (rw e at i))
+
+  pub can-return : {d : Controller} → d ≡ putLeaf n (r .row) (queued (r .queue) (b .id) (queueAt c n)) c
+      → SoundTree (d .tree) × Within (d .tree) (d .active) × ((k : ℕ) → rowAt d k .budget .0 * shareAt d k ≤ worthMost)
+  can-return i =
+      let less : r .row .budget .0 ≤ rowAt c n .budget .0 = rw e (no-budget-decided b n (viewAt n c)) in
+      rw i (
         s .tree,
         s .active,
-        put-each (λ k q w. q .budget .0 * shareAt c k ≤ worthMost) n (r .row) (r .queue) c (s .rows-all) (s .queues-all) (rw p (place-inside b))
-            (le-trans (mul-le-mul less (omega arith)) (s .worth-most n)) (λ k i. s .worth-most k),
+        put-each (λ k q w. q .budget .0 * shareAt c k ≤ worthMost) n (r .row) (queued (r .queue) (b .id) (queueAt c n)) c (s .rows-all) (s .queues-all)
+            (rw p (place-inside b)) (le-trans (mul-le-mul less (omega arith)) (s .worth-most n)) (λ k i. s .worth-most k),
       )
 
   -- no leaf is to become active: it is what the rule says
-  pub settles : OneOf (0 ∷ 2 ∷ []) (tagOf the-type (r .shares)) → carried n r c ≡ submitted b c
+  pub settles : OneOf (0 ∷ 2 ∷ []) (tagOf the-type (r .shares)) → carried b n r c ≡ submitted b c
   settles k = rw e (go (has (c .leaves) n) refl)
     where
       awake : isLeaf (c .tree) (b .node) ≡ true → (cost : Abs) → costing (c .model) (rowAt c n) b ≡ Costs cost → (u : Bool) → has (c .active) n ≡ u
-          → carried n (decision b n (viewAt n c)) c ≡ submitted b c
+          → carried b n (decision b n (viewAt n c)) c ≡ submitted b c
       awake l cost f true o = lands s b l cost (found b c (here l) refl f) (here l) (sym (entered-active n c o))
       awake l cost f false o =
           let first : activates (viewAt n c) ≡ decision b n (viewAt n c) = activates-first b n (viewAt n c) refl (leaf-is ∙ l) refl f refl o in
           never (not-active (rw (e ∙ sym first) at k))
 
       costed : isLeaf (c .tree) (b .node) ≡ true → (x : Costing) → costing (c .model) (rowAt c n) b ≡ x
-          → carried n (decision b n (viewAt n c)) c ≡ submitted b c
+          → carried b n (decision b n (viewAt n c)) c ≡ submitted b c
       costed l (Costs cost) f = awake l cost f (has (c .active) n) refl
       costed l (Uncosted x) f =
-          ap (λ (q : Decision). carried n q c) (sym (uncosted-decides b n (viewAt n c) refl (leaf-is ∙ l) refl f))
-          ∙ declined-carried c n x ∙ unfit s b l x (found b c (here l) refl f)
+          ap (λ (q : Decision). carried b n q c) (sym (uncosted-decides b n (viewAt n c) refl (leaf-is ∙ l) refl f))
+          ∙ declined-carried b c n x ∙ unfit s b l x (found b c (here l) refl f)
 
-      go : (t : Bool) → has (c .leaves) n ≡ t → carried n (decision b n (viewAt n c)) c ≡ submitted b c
+      go : (t : Bool) → has (c .leaves) n ≡ t → carried b n (decision b n (viewAt n c)) c ≡ submitted b c
       go true l = costed (sym leaf-is ∙ l) (costing (c .model) (rowAt c n) b) refl
       go false l =
-          ap (λ (q : Decision). carried n q c) (sym (no-leaf-decides b n (viewAt n c) refl l))
-          ∙ declined-carried c n NoLeaf ∙ no-leaf s b (sym leaf-is ∙ l)
+          ap (λ (q : Decision). carried b n q c) (sym (no-leaf-decides b n (viewAt n c) refl l))
+          ∙ declined-carried b c n NoLeaf ∙ no-leaf s b (sym leaf-is ∙ l)
 
   -- where the shares stand, the leaf alone is put back
-  pub stands : r .shares ≡ Stand → _≡_ {A = Submitted} (record { answer = r .answer; state = putLeaf n (r .row) (r .queue) c }) (submitted b c)
-  stands i = staying r n c (rw i (inl refl)) ∙ settles (rw i (inl refl))
+  pub stands : {d : Controller} → r .shares ≡ Stand → d ≡ putLeaf n (r .row) (queued (r .queue) (b .id) (queueAt c n)) c
+      → _≡_ {A = Submitted} (record { answer = r .answer; state = d }) (submitted b c)
+  stands i q = staying b r n c q (rw i (inl refl)) ∙ settles (rw i (inl refl))
 
   -- ---- the leaf is to become active
   module _ (i : r .shares ≡ Activate) where
@@ -321,6 +366,6 @@ module _ {c : Controller} (s : Sound c) (b : Bio) {n : ℕ} (p : n ≡ placeOf b
       pub woken-sound : Sound d
       woken-sound = rw is-entered (entering-keeps s n (rw (here leaf-found) leaf-found))
 
-      pub woken-settles : {q : Decision} → q ≡ decision b n (viewAt n d) → carried n q d ≡ submitted b c
+      pub woken-settles : {q : Decision} → q ≡ decision b n (viewAt n d) → carried b n q d ≡ submitted b c
       woken-settles f =
           rw f (lands s b leaf-found (waking .cost) (found b c (here leaf-found) refl (waking .costs)) (here leaf-found) is-entered)

@@ -43,9 +43,11 @@ use Rattle.rules.specs.declared.refusals.Costing.the-variants.{Costs, Refused a
 use Rattle.rules.specs.declared.refusals.Answer.{Answer}
 use Rattle.rules.specs.declared.refusals.Answer.the-variants.{Issued, Waits, OnDebt, Refused as Declined}
 use Rattle.leaf.specs.Alone.{counted, answerWith, answer-by-count, notedAt}
-use Rattle.leaf.specs.Fit.{CanTake, HasRoom, active-is-fit}
+use Rattle.leaf.specs.Fit.{CanTake}
+use Rattle.submit.specs.declared.Queueing.{Queueing}
+use Rattle.submit.specs.declared.Queueing.the-variants.{Stays, Joins}
 use Rattle.submit.specs.declared.Judged.{Judged}
-use Rattle.submit.specs.OnLeaf.{CanJudge, onLeafBy, onLeaf}
+use Rattle.submit.specs.OnLeaf.{CanJudge, queueing, queued, onLeafBy, onLeaf}
 
 -- ---- refusals 7 and 8
 module _ (a : Answer) (cost : Abs) (row : Row) (n : ℕ) where
@@ -82,43 +84,52 @@ placed cost row n = go (leb queueRoom n) refl
     go true e i = never (cc)
     go false e i = leb-false queueRoom n e
 
-module _ {b : Bio} {cost : Abs} {share : ℕ} {row : Row} {queue : Queue} {forced : Bool} {answer : Answer} {verdict : Verdict}
-    (can : CanJudge b cost share row queue) (f : forced ≡ isForced b) (a : answer ≡ answerWith forced cost share row (queue .len))
-    (v : verdict ≡ firstOf (roomChecks answer cost row (counted (queue .len))))
+module _ (waiting : ℕ) {b : Bio} {cost : Abs} {share : ℕ} {row : Row} {forced : Bool} {answer : Answer} {verdict : Verdict}
+    (can : CanJudge b cost share row) (f : forced ≡ isForced b) (a : answer ≡ answerWith forced cost share row waiting)
+    (v : verdict ≡ firstOf (roomChecks answer cost row (counted waiting)))
   where
-    answer-is : answer ≡ answerTo (isForced b) cost share row queue
-    answer-is = a ∙ rw f (sym (answer-by-count (isForced b) cost share row queue))
+    answer-is : answer ≡ answerWith (isForced b) cost share row waiting
+    answer-is = a ∙ ap (λ (x : Bool). answerWith x cost share row waiting) f
 
-    verdict-is : verdict ≡ firstOf (roomChecks (answerTo (isForced b) cost share row queue) cost row queue)
-    unfolding roomChecks
-    verdict-is = v ∙ rw answer-is
+    verdict-is : verdict ≡ firstOf (roomChecks (answerWith (isForced b) cost share row waiting) cost row (counted waiting))
+    verdict-is = v ∙ ap (λ (x : Answer). firstOf (roomChecks x cost row (counted waiting))) answer-is
 
     pub can-take : CanTake answer cost share row
     can-take = record {
-      books = can .fit .books;
+      books = can .books;
       cheap = can .cheap;
-      fitting = λ i. issued-fits cost share row (counted (queue .len)) forced (sym a ∙ i);
+      fitting = λ i. issued-fits cost share row (counted waiting) forced (sym a ∙ i);
     }
 
-    pub has-room : verdict ≡ Accepted → HasRoom answer queue
-    has-room e = record {
-      sound = can .fit .waiting;
-      room = λ i. placed cost row (queue .len) (rw i at (sym v ∙ e));
-    }
-
-    pub accepts : verdict ≡ Accepted → {end : ℕ} {taken last : Row} {queued : Queue} → end ≡ endOf b
-        → taken ≡ rowAfter answer cost share row → last ≡ notedAt end taken → queued ≡ queueAfter answer (b .id) cost queue
-        → _≡_ {A = Judged} (record { answer = answer; row = last; queue = queued }) (onLeaf b cost share row queue)
+    pub accepts : verdict ≡ Accepted → {end : ℕ} {taken last : Row} {q : Queueing} → end ≡ endOf b
+        → taken ≡ rowAfter answer cost share row → last ≡ notedAt end taken → q ≡ queueing answer cost
+        → _≡_ {A = Judged} (record { answer = answer; row = last; queue = q }) (onLeaf b cost share row waiting)
     unfolding onLeaf onLeafBy
     accepts e n t l q =
         rw (l, q, t, n, answer-is)
-        (ap (λ (x : Verdict). onLeafBy x (answerTo (isForced b) cost share row queue) b cost share row queue) (sym e ∙ verdict-is))
+        (ap (λ (x : Verdict). onLeafBy x (answerWith (isForced b) cost share row waiting) b cost share row) (sym e ∙ verdict-is))
 
     pub refuses : (x : Refusal) → verdict ≡ Refused x
-        → _≡_ {A = Judged} (record { answer = Declined x; row = row; queue = queue }) (onLeaf b cost share row queue)
+        → _≡_ {A = Judged} (record { answer = Declined x; row = row; queue = Stays }) (onLeaf b cost share row waiting)
     unfolding onLeaf onLeafBy
     refuses x e =
-        ap (λ (y : Verdict). onLeafBy y (answerTo (isForced b) cost share row queue) b cost share row queue) (sym e ∙ verdict-is)
+        ap (λ (y : Verdict). onLeafBy y (answerWith (isForced b) cost share row waiting) b cost share row) (sym e ∙ verdict-is)
+
+-- a bio joins a queue only where that has room
+pub joins-with-room : (b : Bio) (cost : Abs) (share : ℕ) (row : Row) (waiting : ℕ) (k : Abs) → onLeaf b cost share row waiting .queue ≡ Joins k
+    → waiting < queueRoom
+unfolding onLeaf onLeafBy queueing
+joins-with-room b cost share row waiting k =
+    let answer : Answer = answerWith (isForced b) cost share row waiting in
+    go answer (firstOf (roomChecks answer cost row (counted waiting))) refl
+  where
+    go : (a : Answer) (v : Verdict) → firstOf (roomChecks a cost row (counted waiting)) ≡ v → onLeafBy v a b cost share row .queue ≡ Joins k
+        → waiting < queueRoom
+    go Waits Accepted e i = placed cost row waiting e
+    go Issued Accepted e i = never (cc)
+    go OnDebt Accepted e i = never (cc)
+    go (Declined x) Accepted e i = never (cc)
+    go a (Refused x) e i = never (cc)
 
 -- no bio adds to its leaf's budget
 no-more : (a : Answer) (cost : Abs) (share : ℕ) (r : Row) → rowAfter a cost share r .budget .0 ≤ r .budget .0
@@ -128,14 +139,14 @@ no-more Waits cost share r = omega arith
 no-more OnDebt cost share r = omega arith
 no-more (Declined x) cost share r = omega arith
 
-pub no-budget-gained : (b : Bio) (cost : Abs) (share : ℕ) (row : Row) (queue : Queue)
-    → onLeaf b cost share row queue .row .budget .0 ≤ row .budget .0
+pub no-budget-gained : (b : Bio) (cost : Abs) (share : ℕ) (row : Row) (waiting : ℕ)
+    → onLeaf b cost share row waiting .row .budget .0 ≤ row .budget .0
 unfolding onLeaf onLeafBy
-no-budget-gained b cost share row queue =
-    let answer : Answer = answerTo (isForced b) cost share row queue in
-    go answer (firstOf (roomChecks answer cost row queue))
+no-budget-gained b cost share row waiting =
+    let answer : Answer = answerWith (isForced b) cost share row waiting in
+    go answer (firstOf (roomChecks answer cost row (counted waiting)))
   where
-    go : (a : Answer) (v : Verdict) → onLeafBy v a b cost share row queue .row .budget .0 ≤ row .budget .0
+    go : (a : Answer) (v : Verdict) → onLeafBy v a b cost share row .row .budget .0 ≤ row .budget .0
     go a Accepted = no-more a cost share row
     go a (Refused x) = omega arith
 
@@ -165,21 +176,20 @@ pub record Ready (b : Bio) (cost : Abs) (c : Controller) : Type 0 where
   pub same : cost ≡ costIn c b
   pub cheap : cost .0 ≤ costMost
 
-abbrev put : ℕ → Judged → Controller → Controller
-put n j c = putLeaf n (j .row) (j .queue) c
+abbrev put : Bio → ℕ → Judged → Controller → Controller
+put b n j c = putLeaf n (j .row) (queued (j .queue) (b .id) (queueAt c n)) c
 
 -- "4. If the bio waited .."
-abbrev pub landed : ℕ → Judged → Controller → Submitted
-landed n j c = record {
+abbrev pub landed : Bio → ℕ → Judged → Controller → Submitted
+landed b n j c = record {
   answer = j .answer;
-  state = cond (endsDonation (j .answer) && has (c .donors) n) (rebased (c .active) (put n j c)) (put n j c);
+  state = cond (endsDonation (j .answer) && has (c .donors) n) (rebased (c .active) (put b n j c)) (put b n j c);
 }
 
-module _ {b : Bio} {cost : Abs} {c : Controller} (ready : Ready b cost c) {n share : ℕ} (m : n ≡ b .node) (s : share ≡ shareAt c n)
-  where
-    module _ {j : Judged} (e : j ≡ onLeaf b cost share (rowAt c n) (queueAt c n)) where
-      judged-is : j ≡ onLeaf b (costIn c b) (shareAt c (b .node)) (rowAt c (b .node)) (queueAt c (b .node))
-      judged-is = e ∙ rw (s, m, ready .same)
+judged-is : {b : Bio} {cost : Abs} {c : Controller} → Ready b cost c → {n share : ℕ} → n ≡ b .node → share ≡ shareAt c n → {j : Judged}
+    → j ≡ onLeaf b cost share (rowAt c n) (queueAt c n .len)
+    → j ≡ onLeaf b (costIn c b) (shareAt c (b .node)) (rowAt c (b .node)) (queueAt c (b .node) .len)
+judged-is ready m s e = e ∙ rw (s, m, ready .same)
 
 -- ---- what the code finds at its own copy of the bio's node
 pub found : (b : Bio) (c : Controller) {n : ℕ} {k x : Costing} → n ≡ b .node → k ≡ costing (c .model) (rowAt c n) b → k ≡ x
@@ -206,22 +216,40 @@ uncosted model row b x = go (firstOf (costChecks model row b))
     go Accepted e = never (cc)
     go (Refused y) e = cc
 
+-- what becomes of a queue is what the rule says of it
+queued-is : (a : Answer) (cost : Abs) (id : ℕ) (q : Queue) → queued (queueing a cost) id q ≡ queueAfter a id cost q
+unfolding queued queueing queueAfter
+queued-is Issued cost id q = refl
+queued-is Waits cost id q = refl
+queued-is OnDebt cost id q = refl
+queued-is (Declined x) cost id q = refl
+
 -- what is judged in a state, by the verdict there
 abbrev judgedBy : Verdict → Bio → Controller → Submitted
 judgedBy v b c =
-    landed (b .node) (onLeafBy v (answerIn c b) b (costIn c b) (shareAt c (b .node)) (rowAt c (b .node)) (queueAt c (b .node))) c
+    landed b (b .node) (onLeafBy v (answerIn c b) b (costIn c b) (shareAt c (b .node)) (rowAt c (b .node))) c
 
 abbrev judged : Bio → Controller → Submitted
-judged b c = landed (b .node) (onLeaf b (costIn c b) (shareAt c (b .node)) (rowAt c (b .node)) (queueAt c (b .node))) c
+judged b c = landed b (b .node) (onLeaf b (costIn c b) (shareAt c (b .node)) (rowAt c (b .node)) (queueAt c (b .node) .len)) c
+
+-- of the queue the verdict looks at how many wait
+by-verdict : (b : Bio) (c : Controller)
+    → judged b c ≡ judgedBy (firstOf (roomChecks (answerIn c b) (costIn c b) (rowAt c (b .node)) (queueAt c (b .node)))) b c
+unfolding onLeaf answerIn roomChecks
+by-verdict b c =
+    ap (λ (a : Answer). landed b (b .node) (onLeafBy (firstOf (roomChecks a (costIn c b) (rowAt c (b .node)) (queueAt c (b .node)))) a b (costIn c b) (shareAt c (b .node)) (rowAt c (b .node))) c)
+    (sym (answer-by-count (isForced b) (costIn c b) (shareAt c (b .node)) (rowAt c (b .node)) (queueAt c (b .node))))
 
 alike : (b : Bio) (c : Controller) (v : Verdict) → entered (b .node) c ≡ c → judgedBy v b c ≡ submittedBy v b c
-unfolding onLeafBy submittedBy submission wouldBe settled applied
-alike b c Accepted t = rw t
+unfolding onLeafBy submittedBy submission wouldBe settled applied endsDonation queued
+alike b c Accepted t = rw (queued-is (answerIn c b) (costIn c b) (b .id) (queueAt c (b .node)), t)
 alike b c (Refused x) t = rw (set-getD (c .rows) (b .node) emptyRow, set-getD (c .queues) (b .node) emptyQueue)
 
 woken-alike : (b : Bio) (c : Controller) → judgedBy Accepted b (entered (b .node) c) ≡ submittedBy Accepted b c
 unfolding onLeafBy submittedBy submission wouldBe settled applied
-woken-alike b c = refl
+woken-alike b c =
+    let d : Controller = entered (b .node) c in
+    rw (queued-is (answerIn d b) (costIn d b) (b .id) (queueAt d (b .node)))
 
 module _ {c : Controller} (s : Sound c) (b : Bio) where
   pub no-leaf : isLeaf (c .tree) (b .node) ≡ false → _≡_ {A = Submitted} (record { answer = Declined NoLeaf; state = c }) (submitted b c)
@@ -262,19 +290,20 @@ module _ {c : Controller} (s : Sound c) (b : Bio) where
       first = rw (leaf, range, le-ltb costMost (costIn c b .0) small)
 
       in-place : has (c .active) (b .node) ≡ true → judged b (entered (b .node) c) ≡ submitted b c
-      unfolding onLeaf answerIn submitted wouldBe
+      unfolding answerIn submitted wouldBe
       in-place on =
           let there : entered (b .node) c ≡ c = entered-active (b .node) c on in
-          ap (judged b) there ∙ alike b c (firstOf (roomChecks (answerIn c b) (costIn c b) (rowAt c (b .node)) (queueAt c (b .node)))) there
+          ap (judged b) there ∙ by-verdict b c ∙ alike b c (firstOf (roomChecks (answerIn c b) (costIn c b) (rowAt c (b .node)) (queueAt c (b .node)))) there
           ∙ ap (λ (v : Verdict). submittedBy v b c) (rw (first, there))
 
       woken : has (c .active) (b .node) ≡ false → judged b (entered (b .node) c) ≡ submitted b c
-      unfolding onLeaf answerIn submitted
+      unfolding answerIn submitted
       woken off =
           let d : Controller = entered (b .node) c in
           let w : Reweighed c d = entering-reweighs s (b .node) in
           let here = s .idle (b .node) off in
-          ap (λ (v : Verdict). judgedBy v b d)
+          by-verdict b d
+          ∙ ap (λ (v : Verdict). judgedBy v b d)
           (idle-has-room (answerIn d b) (costIn d b) (rowAt d (b .node)) (queueAt d (b .node)) (reweighed-debt w (b .node) ∙ here .no-debt)
           (ap (λ (q : Queue). q .len) (reweighed-queue w (b .node)) ∙ here .no-waiter) (rw (reweighed-cost w b (b .node)) small))
           ∙ woken-alike b c
@@ -282,7 +311,7 @@ module _ {c : Controller} (s : Sound c) (b : Bio) where
           (sym (first ∙ idle-has-room (wouldBe c b) (costIn c b) (rowAt c (b .node)) (queueAt c (b .node)) (here .no-debt) (here .no-waiter) small))
 
       pub submits : {n share : ℕ} {d : Controller} {j : Judged} {r : Submitted} → n ≡ b .node → d ≡ entered n c → share ≡ shareAt d n
-          → j ≡ onLeaf b cost share (rowAt d n) (queueAt d n) → r ≡ landed n j d → r ≡ submitted b c
+          → j ≡ onLeaf b cost share (rowAt d n) (queueAt d n .len) → r ≡ landed b n j d → r ≡ submitted b c
       submits {n} {share} {d} {j} m i h e l =
           l ∙ rw (judged-is (ready-there m i) m h e, i, m) (go (has (c .active) (b .node)) refl)
         where

@@ -17,7 +17,8 @@ use Rattle.rules.specs.declared.refusals.Costing.{Costing}
 use Rattle.rules.specs.declared.refusals.Costing.the-variants.{Costs, Refused as Uncosted}
 use Rattle.rules.specs.declared.refusals.Answer.{Answer}
 use Rattle.rules.specs.declared.refusals.Answer.the-variants.{Waits, Refused as Declined}
-use Rattle.leaf.specs.Fit.{Fit}
+use Rattle.leaf.specs.Fit.{FitRow}
+use Rattle.submit.specs.declared.Queueing.the-variants.{Stays}
 use Rattle.submit.specs.declared.Judged.{Judged}
 use Rattle.submit.specs.declared.View.{View}
 use Rattle.submit.specs.declared.Shares.{Shares}
@@ -38,14 +39,14 @@ viewAt n c = record {
   model = c .model;
   share = shareAt c n;
   row = rowAt c n;
-  queue = queueAt c n;
+  waiting = queueAt c n .len;
 }
 
 -- a view that a sound state can show
 pub record CanDecide (n : ℕ) (v : View) : Type 0 where
   pub place : n < nodesMost
   pub model : SoundModel (v .model)
-  pub fit : has (v .active) n ≡ true → Fit (v .share) (v .row) (v .queue)
+  pub fit : has (v .active) n ≡ true → FitRow (v .share) (v .row)
 
 -- ---- the decision
 -- "4. If the bio waited .."
@@ -53,11 +54,11 @@ unfoldable pub sharesAfter : Answer → ℕ → ℕ → Shares
 sharesAfter answer donors n = cond (endsDonation answer && has donors n) Return Stand
 
 abbrev pub declined : Refusal → View → Decision
-declined x v = record { answer = Declined x; shares = Stand; row = v .row; queue = v .queue }
+declined x v = record { answer = Declined x; shares = Stand; row = v .row; queue = Stays }
 
 -- "1. An inactive leaf becomes active ..": the bio is judged in the state in which it is, and until then it waits
 abbrev pub activates : View → Decision
-activates v = record { answer = Waits; shares = Activate; row = v .row; queue = v .queue }
+activates v = record { answer = Waits; shares = Activate; row = v .row; queue = Stays }
 
 abbrev pub judgedAt : ℕ → View → Judged → Decision
 judgedAt n v j =
@@ -65,7 +66,7 @@ judgedAt n v j =
 
 unfoldable pub decisionBy : Costing → Bio → ℕ → View → Decision
 decisionBy (Costs cost) b n v =
-    cond (has (v .active) n) (judgedAt n v (onLeaf b cost (v .share) (v .row) (v .queue))) (activates v)
+    cond (has (v .active) n) (judgedAt n v (onLeaf b cost (v .share) (v .row) (v .waiting))) (activates v)
 decisionBy (Uncosted x) b n v = declined x v
 
 -- refusal 4, then 5 and 6, and what is left

@@ -3,13 +3,13 @@
 // unless shares change.
 ghost use mathlib.Core.Path.{_≡_};
 ghost use Prim.Native.Nat.{_≤_, _<_};
-ghost use Rattle.rules.specs.Numbers.{costMost, debtMost, nodesMost};
-ghost use Rattle.rules.specs.Budget.{endsDonation, wouldBe};
+ghost use Rattle.rules.specs.Numbers.{costMost, debtMost, nodesMost, queueRoom};
+ghost use Rattle.rules.specs.Budget.{pushed, endsDonation, wouldBe};
 ghost use Rattle.rules.specs.Refusals.{firstOf, roomChecks, answerPaper, answerValues, paperOf, submitChecks};
 ghost use Rattle.rules.specs.Entries.{submitted};
-ghost use Rattle.rules.specs.Invariant.{Sound};
+ghost use Rattle.rules.specs.Invariant.{Sound, SoundQueue};
 ghost use Rattle.leaf.specs.Alone.{counted};
-ghost use Rattle.submit.specs.OnLeaf.{CanJudge, onLeaf};
+ghost use Rattle.submit.specs.OnLeaf.{CanJudge, queueing, onLeaf};
 ghost use Rattle.submit.specs.Decision.{placeOf, CanDecide, sharesAfter, decision};
 use rules::budget::Controller;
 use rules::budget::Queue;
@@ -79,41 +79,66 @@ fn ends_donation(answer: Answer) -> bool
     }
 }
 
-// What a bio comes to on its leaf: the answer, and the leaf's row and queue after it.
+// What a bio does to its leaf's queue: nothing, or it joins, at its cost.
+pub enum Queueing {
+    Stays,
+    Joins(Abs),
+}
+
+// "Else it waits."
+fn queueing_of(answer: Answer, cost: Abs) -> Queueing
+    ensures { λ r. ⌜ r ≡ queueing answer cost ⌝ }
+{
+    match answer {
+        Answer::Waits => Queueing::Joins(cost),
+        Answer::Issued => Queueing::Stays,
+        Answer::OnDebt => Queueing::Stays,
+        Answer::Refused(_) => Queueing::Stays,
+    }
+}
+
+// A queue with a bio that joins it.
+pub fn joined(id: u32, cost: Abs, queue: Queue) -> Queue
+    requires { ⌜ SoundQueue queue × (queue .len < queueRoom) ⌝ }
+    ensures { λ r. ⌜ r ≡ pushed id cost queue ⌝ }
+{
+    leaf::submission::queue_after(Answer::Waits, id, cost, queue)
+}
+
+// What a bio comes to on its leaf: the answer, the leaf's row after it, and what becomes of the queue.
 struct Judged {
     answer: Answer,
     row: Row,
-    queue: Queue,
+    queue: Queueing,
 }
 
 // Refusals 7 and 8, then the answer, on a leaf that is active. A refused bio leaves its leaf as it was.
-fn on_leaf(bio: Bio, cost: Abs, share: u64, row: Row, queue: Queue) -> Judged
-    requires { ⌜ CanJudge bio cost share row queue ⌝ }
-    ensures { λ r. ⌜ r ≡ onLeaf bio cost share row queue ⌝ }
+fn on_leaf(bio: Bio, cost: Abs, share: u64, row: Row, waiting: u8) -> Judged
+    requires { ⌜ CanJudge bio cost share row ⌝ }
+    ensures { λ r. ⌜ r ≡ onLeaf bio cost share row waiting ⌝ }
 {
-    let waiting = queue.len;
     let answer = leaf::submission::answer_to(cost::is_forced(bio), cost, share, row, waiting);
     let verdict = room(answer, cost, row, waiting);
     match verdict {
         Verdict::Accepted => {
             let taken = leaf::submission::row_after(answer, cost, share, row);
             let noted = leaf::row::noted(cost::end_of(bio), taken);
-            let queued = leaf::submission::queue_after(answer, bio.id, cost, queue);
             Judged {
                 answer,
                 row: noted,
-                queue: queued,
+                queue: queueing_of(answer, cost),
             }
         }
         Verdict::Refused(x) => Judged {
             answer: Answer::Refused(x),
             row,
-            queue,
+            queue: Queueing::Stays,
         },
     }
 }
 
-// What a bio is shown of the state: the sets, the model, and the books at its place.
+// What a bio is shown of the state: the sets, the model, and of the books at its place the share, the row and how many wait.
+// A queue is not handed about: to copy it takes longer than to judge the bio.
 pub struct View {
     pub leaves: u64,
     pub active: u64,
@@ -121,7 +146,7 @@ pub struct View {
     pub model: Model,
     pub share: u32,
     pub row: Row,
-    pub queue: Queue,
+    pub waiting: u8,
 }
 
 // What a bio does to the shares of all: nothing, or its leaf is to become active before the bio is judged, or all return
@@ -132,12 +157,12 @@ pub enum Shares {
     Return,
 }
 
-// What a bio comes to: the answer, the row and the queue at its place after it, and what it does to the shares.
+// What a bio comes to: the answer, what it does to the shares, the row at its place after it, and what becomes of the queue.
 pub struct Decision {
     pub answer: Answer,
     pub shares: Shares,
     pub row: Row,
-    pub queue: Queue,
+    pub queue: Queueing,
 }
 
 // "4. If the bio waited or went on debt and the leaf is a donor, .."
@@ -159,13 +184,12 @@ pub fn decide(bio: Bio, node: usize, view: View) -> Decision
     ensures { λ r. ⌜ r ≡ decision bio node view ⌝ }
 {
     let row = view.row;
-    let queue = view.queue;
     if !sets::has(view.leaves, node) {
         return Decision {
             answer: Answer::Refused(Refusal::NoLeaf),
             shares: Shares::Stand,
             row,
-            queue,
+            queue: Queueing::Stays,
         };
     }
     let model = view.model;
@@ -178,25 +202,25 @@ pub fn decide(bio: Bio, node: usize, view: View) -> Decision
                     answer: Answer::Waits,
                     shares: Shares::Activate,
                     row,
-                    queue,
+                    queue: Queueing::Stays,
                 };
             }
-            let judged = on_leaf(bio, cost, wide(view.share), row, queue);
+            let judged = on_leaf(bio, cost, wide(view.share), row, view.waiting);
             let answer = judged.answer;
             let next = judged.row;
-            let queued = judged.queue;
+            let queue = judged.queue;
             Decision {
                 answer,
                 shares: shares_after(answer, view.donors, node),
                 row: next,
-                queue: queued,
+                queue,
             }
         }
         Costing::Refused(x) => Decision {
             answer: Answer::Refused(x),
             shares: Shares::Stand,
             row,
-            queue,
+            queue: Queueing::Stays,
         },
     }
 }
@@ -220,7 +244,7 @@ pub fn submit(mut c: Controller, bio: Bio) -> Submitted
         model,
         share,
         row,
-        queue,
+        waiting: queue.len,
     };
     let mut decided = decide(bio, node, view);
     // "1. An inactive leaf becomes active .."
@@ -238,14 +262,18 @@ pub fn submit(mut c: Controller, bio: Bio) -> Submitted
             model,
             share,
             row,
-            queue,
+            waiting: queue.len,
         };
         decided = decide(bio, node, view);
     }
     let next = decided.row;
-    let queued = decided.queue;
     c.rows[node] = next;
-    c.queues[node] = queued;
+    let queueing = decided.queue;
+    if let Queueing::Joins(cost) = queueing {
+        let queue = c.queues[node];
+        let longer = joined(bio.id, cost, queue);
+        c.queues[node] = longer;
+    }
     // "4. .. the donation ends: all return to base shares."
     let last = decided.shares;
     if let Shares::Return = last {

@@ -20,17 +20,14 @@ use Rattle.rules.specs.Replay.{allRoom, answerLine, tickLines, verdictLines}
 use Rattle.rules.specs.Chunks.{isCall}
 use Rattle.rules.specs.Buffers.{Written, restOf, putBack}
 use Rattle.rules.specs.Laws.Buffers.{stands-left, stands-kept, stands-fits}
+use Rattle.rules.specs.Budget.{pushed}
 use Rattle.rules.specs.Entries.{submitted}
 use Rattle.rules.specs.declared.budget.Controller.{Controller}
 use Rattle.rules.specs.declared.budget.Outcome.{Outcome}
 use Rattle.rules.specs.declared.budget.Submitted.{Submitted}
 use Rattle.rules.specs.declared.replay.Call.{Call}
 use Rattle.submit.specs.Decision.{viewAt, decision}
-use Rattle.submit.proofs.Decisions.{place-inside, seen, can-decide, stands}
-use Rattle.tick.proofs.Clocks.{grown-small}
-use Rattle.tick.proofs.Answers.{clock-refuses, enough-places, refuses, accepts}
-use Rattle.tick.proofs.Going.{Walking, same-walking, passing-is-near, begins, row-fits, rests, release-fits, count-fits, goes-on, ends as over}
-use Rattle.plan.proofs.Steps.{passed, refused, put-in, accepted}
+use Rattle.submit.proofs.Decisions.{place-inside, queue-read, seen, can-decide, joining, as-it-was, can-join, stands}
 use Rattle.calls.specs.Calls.{planLinesOf}
 use Rattle.calls.proofs.Answered.{Answered, can-print, bio-answered, tick-answered, plan-answered, set-answered}
 use Rattle.calls.proofs.Running.{Running, begun, goes, ends, asks, called, no-call, bio-is-call, tick-is-call, plan-is-call, set-is-call}
@@ -143,14 +140,28 @@ decided-at c =
     c .decide .ensures
     ∙ ap (decision (bio-asked p .call .given .0 .0) (p .place-of .result)) (seen (head (bio-turn p) .loop .inv .sound) (small-at p))
 
--- by either way the answer and the state are the submission's
+-- by each way the answer and the state are the submission's: the bio joins the queue, or the queue stays, or shares change
 is-submitted : (m : tie.At-match2-came Inv-loop μ-loop) → let p = placed (m .before) in
     _≡_ {A = Submitted} (record { answer = m .match2 .answer; state = m .match2 .c }) (submitted (bio-asked p .call .given .0 .0) (head (bio-turn p) .loop .c))
 is-submitted m =
     let p = placed (m .before) in
+    let b = bio-asked p .call .given .0 .0 in
+    let n = p .place-of .result in
+    let r = m .before .decide .result in
+    let s = head (bio-turn p) .loop .c in
+    let sound = head (bio-turn p) .loop .inv .sound in
     ⊎-elim
-    (λ w. rw (w .4, w .5) (stands (head (bio-turn p) .loop .inv .sound) _ (p .place-of .ensures) (decided-at (m .before)) (w .1 .given .1)))
-    (λ w. rw (w .3, w .4) (w .1 .ensures .0))
+    (λ w.
+    rw (w .8, w .9)
+    (stands sound b (p .place-of .ensures) (decided-at (m .before)) (w .1 .given .1)
+    (joining b r n s (w .4 .given .1) (w .7 .ensures ∙ ap (pushed (b .id) (w .4 .given .0 .0)) (queue-read sound (small-at p))))))
+    (λ w.
+    ⊎-elim
+    (λ v.
+    rw (v .5, v .6)
+    (stands sound b (p .place-of .ensures) (decided-at (m .before)) (v .1 .given .1) (as-it-was b r n s (v .4 .given .1))))
+    (λ v. rw (v .3, v .4) (v .1 .ensures .0))
+    w)
     (m .match2 .came)
 
 place-of-requires : tie.Need-place-of-requires Inv-loop μ-loop
@@ -184,16 +195,35 @@ enum-told-2 : tie.Need-enum-told-2 Inv-loop μ-loop
 enum-told-2 c = search needs
 
 mul-next : tie.Need-mul-next Inv-loop μ-loop
-mul-next c = record { fits = omega (arith, small-at (placed (c .before .before .before .before))) }
+mul-next c = record { fits = omega (arith, small-at (placed (c .before .before .before))) }
 
 element-set-from-next : tie.Need-element-set-from-next Inv-loop μ-loop
-element-set-from-next c = small-at (placed (c .before .before .before .before))
+element-set-from-next c = small-at (placed (c .before .before .before))
 
-mul-queued : tie.Need-mul-queued Inv-loop μ-loop
-mul-queued c = record { fits = omega (arith, small-at (placed (c .before .before .before .before))) }
+enum-known-queueing : tie.Need-enum-known-queueing Inv-loop μ-loop
+enum-known-queueing c = search needs
 
-element-set-from-queued : tie.Need-element-set-from-queued Inv-loop μ-loop
-element-set-from-queued c = small-at (placed (c .before .before .before .before))
+mul-queue-2 : tie.Need-mul-queue-2 Inv-loop μ-loop
+mul-queue-2 c = record { fits = omega (arith, small-at (placed (c .before .before .before .before .before .before))) }
+
+element-copy-out-queue-2 : tie.Need-element-copy-out-queue-2 Inv-loop μ-loop
+element-copy-out-queue-2 c = small-at (placed (c .before .before .before .before .before .before))
+
+joined-requires : tie.Need-joined-requires Inv-loop μ-loop
+joined-requires c κs =
+    let told = c .before .before in
+    let d = told .before .before .before .before .before in
+    let p = placed d in
+    can-join (head (bio-turn p) .loop .inv .sound) _ (p .place-of .ensures) (decided-at d) (told .queueing .given .1)
+
+mul-longer : tie.Need-mul-longer Inv-loop μ-loop
+mul-longer c = record { fits = omega (arith, small-at (placed (c .before .before .before .before .before .before .before .before))) }
+
+element-set-from-longer : tie.Need-element-set-from-longer Inv-loop μ-loop
+element-set-from-longer c = small-at (placed (c .before .before .before .before .before .before .before .before))
+
+enum-told-3 : tie.Need-enum-told-3 Inv-loop μ-loop
+enum-told-3 c = search needs
 
 submit-requires : tie.Need-submit-requires Inv-loop μ-loop
 submit-requires c κs = head (bio-turn (placed (c .before))) .loop .inv .sound
@@ -289,8 +319,8 @@ loop-again-2 c =
     (tick-answered _ _ _ _ (done .tick .ensures .0 .0) (done .tick .ensures .0 .1) (put .put-ticked .ensures)) (put .put-ticked .kept .1 .1 .0)
 
 -- ---- a plan
-enum-told-3 : tie.Need-enum-told-3 Inv-loop μ-loop
-enum-told-3 c = search needs
+enum-told-4 : tie.Need-enum-told-4 Inv-loop μ-loop
+enum-told-4 c = search needs
 
 growth-requires : tie.Need-growth-requires Inv-loop2 μ-loop2 Inv-loop μ-loop
 growth-requires c κs = passing-is-near (head (tick-turn (c .before .before)) .loop .inv .sound) (passing c)
@@ -547,9 +577,10 @@ loop-less-3 c = less-at (plan-turn (c .before .before .before .before .before .b
 loop-again-3 : tie.Need-loop-again-3 Inv-loop2 μ-loop2 Inv-loop μ-loop
 loop-again-3 c =
     let put = c .before .before in
-    let j = put .before .before .before .before in
-    again-at (plan-turn (j .before)) _ (plan-asked (j .before) .enum-told4 .given .1) plan-is-call _
-    (plan-answered _ _ _ (is-planned j) (put .put-planned .ensures)) (put .put-planned .kept .1 .1 .1 .0)
+    let done = put .before .before .before .before .before in
+    let asked = done .before in
+    again-at (asked .before .before) _ (asked .enum-told4 .given .1) plan-is-call _
+    (plan-answered _ _ _ (done .plan .ensures .0) (put .put-planned .ensures)) (put .put-planned .kept .1 .1 .1 .0)
 
 -- ---- a setting
 enum-known-call-3 : tie.Need-enum-known-call-3 Inv-loop2 μ-loop2 Inv-loop μ-loop
@@ -622,8 +653,13 @@ run-spec =
     enum-told-2
     mul-next
     element-set-from-next
-    mul-queued
-    element-set-from-queued
+    enum-known-queueing
+    mul-queue-2
+    element-copy-out-queue-2
+    joined-requires
+    mul-longer
+    element-set-from-longer
+    enum-told-3
     submit-requires
     sub-put-answer
     part-put-answer-start
@@ -676,9 +712,7 @@ run-spec =
     loop-less-2
     loop-again-2
     enum-told-4
-    is-due-requires
-    parts-requires
-    restarted-requires
+    plan-requires
     sub-put-planned
     part-put-planned-start
     part-put-planned-end

@@ -40,17 +40,18 @@ on-leaf-requires c κs =
     let asked = costed .before .before in
     let found = asked .before .before in
     can-judge-there _ _ _ (found .before .has .ensures) (not-false _ (found .if1 .left)) (asked .cost-of .ensures .0) (costed .costing .given .1)
-    (active .has2 .ensures) (found .before .before .before .before .pre) (not-false _ (c .before .if2 .left)) (c .wide .ensures)
+    (active .has2 .ensures) (found .before .before .before .pre) (not-false _ (c .before .if2 .left)) (c .wide .ensures)
 
 shares-after-requires : tie.Need-shares-after-requires
-shares-after-requires c κs = c .before .before .before .before .before .before .before .before .before .before .before .before .before .before .before .pre .place
+shares-after-requires c κs =
+    c .before .before .before .before .before .before .before .before .before .before .before .before .before .pre .place
 
 enum-known-costing-2 : tie.Need-enum-known-costing-2
 enum-known-costing-2 c = search needs
 
 returns-3 : tie.Need-returns-3
 returns-3 c =
-    let judging = c .before .before .before in
+    let judging = c .before .before in
     let left = judging .before .before in
     let active = left .before in
     let costed = active .before .before in

@@ -2,7 +2,7 @@
 -- Assumes nothing.
 use borrow.Author.Needs.{needs}
 use Rattle.rules.specs.Laws.Costs.{bio-in-range}
-use Rattle.submit.proofs.Shapes.{can-take, has-room, accepts, refuses}
+use Rattle.submit.proofs.Shapes.{can-take, accepts, refuses}
 use Rattle.submit.proofs.on_leaf.Statement.{statement}
 use Rattle.submit.proofs.on_leaf.Tie as tie
 
@@ -24,15 +24,15 @@ returns c =
     let taking = c .before .before .before in
     let judging = taking .before .before .before in
     let forcing = judging .before .before in
-    accepts (forcing .before .pre) (forcing .is-forced .ensures) (judging .before .answer-to .ensures) (judging .room .ensures)
+    accepts (forcing .before .args .waiting) (forcing .before .pre) (forcing .is-forced .ensures) (judging .before .answer-to .ensures) (judging .room .ensures)
     (taking .before .enum-told .given .1) (c .before .before .end-of .ensures) (taking .row-after .ensures) (c .before .noted .ensures)
-    (c .queue-after .ensures)
+    (c .queueing-of .ensures)
 
 row-after-requires : tie.Need-row-after-requires
 row-after-requires c κs =
     let judging = c .before .before in
     let forcing = judging .before .before in
-    can-take (forcing .before .pre) (forcing .is-forced .ensures) (judging .before .answer-to .ensures) (judging .room .ensures)
+    can-take (forcing .before .args .waiting) (forcing .before .pre) (forcing .is-forced .ensures) (judging .before .answer-to .ensures) (judging .room .ensures)
 
 end-of-requires : tie.Need-end-of-requires
 end-of-requires c κs =
@@ -42,13 +42,8 @@ end-of-requires c κs =
 noted-requires : tie.Need-noted-requires
 noted-requires c κs = search needs
 
-queue-after-requires : tie.Need-queue-after-requires
-queue-after-requires c κs =
-    let told = c .before .before .before in
-    let judging = told .before .before in
-    let forcing = judging .before .before in
-    has-room (forcing .before .pre) (forcing .is-forced .ensures) (judging .before .answer-to .ensures) (judging .room .ensures)
-    (told .enum-told .given .1)
+queueing-of-requires : tie.Need-queueing-of-requires
+queueing-of-requires c κs = search needs
 
 enum-known-verdict : tie.Need-enum-known-verdict
 enum-known-verdict c = search needs
@@ -57,7 +52,7 @@ returns-2 : tie.Need-returns-2
 returns-2 c =
     let judging = c .before .before .before in
     let forcing = judging .before .before in
-    refuses (forcing .before .pre) (forcing .is-forced .ensures) (judging .before .answer-to .ensures) (judging .room .ensures) _
+    refuses (forcing .before .args .waiting) (forcing .before .pre) (forcing .is-forced .ensures) (judging .before .answer-to .ensures) (judging .room .ensures) _
     (c .before .verdict .given .1)
 
 pub on-leaf-spec : {M : Type 1} → statement M
@@ -71,7 +66,7 @@ on-leaf-spec =
     row-after-requires
     end-of-requires
     noted-requires
-    queue-after-requires
+    queueing-of-requires
     enum-known-verdict
     returns
     returns-2)

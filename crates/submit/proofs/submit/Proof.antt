@@ -6,7 +6,7 @@ use Prim.Native.Nat.{ℕ, _<_}
 use native.Mathlib.Omega.{arith}
 use borrow.Author.Needs.{needs}
 use Rattle.rules.specs.Numbers.{nodesMost}
-use Rattle.rules.specs.Budget.{rebased}
+use Rattle.rules.specs.Budget.{queueAt, putLeaf, pushed, rebased}
 use Rattle.rules.specs.Entries.{submitted}
 use Rattle.rules.specs.Invariant.{Sound}
 use Rattle.rules.specs.Laws.Refusals.{submit-on-paper}
@@ -14,8 +14,9 @@ use Rattle.rules.specs.Laws.Resharing.{activeWith}
 use Rattle.rules.specs.declared.cost.Bio.{Bio}
 use Rattle.rules.specs.declared.budget.Controller.{Controller}
 use Rattle.submit.specs.declared.Decision.{Decision}
+use Rattle.submit.specs.OnLeaf.{queued}
 use Rattle.submit.specs.Decision.{viewAt, decision}
-use Rattle.submit.proofs.Decisions.{place-inside, seen, can-decide, carried, returning, staying, can-return, settles, woken-active, woken-sound, woken-settles}
+use Rattle.submit.proofs.Decisions.{place-inside, queue-read, seen, can-decide, carried, joining, as-it-was, returning, staying, can-join, can-return, settles, woken-active, woken-sound, woken-settles}
 use Rattle.submit.proofs.submit.Statement.{statement}
 use Rattle.submit.proofs.submit.Tie as tie
 
@@ -50,7 +51,7 @@ is-sound c =
 record Carries (b : Bio) (c : Controller) (n : ℕ) (r : Decision) (d : Controller) : Type 0 where
   pub sound : Sound d
   pub same : r ≡ decision b n (viewAt n d)
-  pub whole : carried n r d ≡ submitted b c
+  pub whole : carried b n r d ≡ submitted b c
 
 carries : (c : tie.At-match-came) → let p = place (c .before) in
     Carries (p .before .args .bio) (p .before .args .t1) (p .place-of .result) (c .match .decided) (c .match .c)
@@ -80,8 +81,20 @@ carries c =
     (record { sound = s; same = first (c .before); whole = settles s b (p .place-of .ensures) (first (c .before)) (w .0 .keys2) }))
     (c .match .came)
 
-abbrev came : tie.After-queued → tie.At-match-came
-came c = c .before .before
+-- ---- the leaf's books are put back
+put-at : (c : tie.At-match2-came) → let m = c .before .before in let p = place (m .before) in let n = p .place-of .result in let r = m .match .decided in
+    c .match2 .c ≡ putLeaf n (r .row) (queued (r .queue) (p .before .args .bio .id) (queueAt (m .match .c) n)) (m .match .c)
+put-at c =
+    let m = c .before .before in
+    let p = place (m .before) in
+    let b = p .before .args .bio in
+    let n = p .place-of .result in
+    ⊎-elim
+    (λ w.
+    w .5 ∙ joining b (m .match .decided) n (m .match .c) (w .1 .given .1)
+    (w .4 .ensures ∙ ap (pushed (b .id) (w .1 .given .0 .0)) (queue-read (carries m .sound) (small p))))
+    (λ w. w .2 ∙ as-it-was b (m .match .decided) n (m .match .c) (w .1 .given .1))
+    (c .match2 .came)
 
 place-of-requires : tie.Need-place-of-requires
 place-of-requires c κs = search needs
@@ -147,37 +160,57 @@ decide-requires-2 c κs =
     rw (seen (is-sound woken) inside) (can-decide (is-sound woken) inside)
 
 mul-next : tie.Need-mul-next
-mul-next c = record { fits = omega (arith, small (place (came c .before))) }
+mul-next c = record { fits = omega (arith, small (place (c .before .before))) }
 
 element-set-from-next : tie.Need-element-set-from-next
-element-set-from-next c = small (place (came c .before))
+element-set-from-next c = small (place (c .before .before))
 
-mul-queued : tie.Need-mul-queued
-mul-queued c = record { fits = omega (arith, small (place (came c .before))) }
+enum-known-queueing : tie.Need-enum-known-queueing
+enum-known-queueing c = search needs
 
-element-set-from-queued : tie.Need-element-set-from-queued
-element-set-from-queued c = small (place (came c .before))
+mul-queue-3 : tie.Need-mul-queue-3
+mul-queue-3 c = record { fits = omega (arith, small (place (c .before .before .before .before .before))) }
+
+element-copy-out-queue-3 : tie.Need-element-copy-out-queue-3
+element-copy-out-queue-3 c = small (place (c .before .before .before .before .before))
+
+joined-requires : tie.Need-joined-requires
+joined-requires c κs =
+    let told = c .before .before in
+    let m = told .before .before .before in
+    can-join (carries m .sound) _ (place (m .before) .place-of .ensures) (carries m .same) (told .queueing .given .1)
+
+mul-longer : tie.Need-mul-longer
+mul-longer c = record { fits = omega (arith, small (place (c .before .before .before .before .before .before .before))) }
+
+element-set-from-longer : tie.Need-element-set-from-longer
+element-set-from-longer c = small (place (c .before .before .before .before .before .before .before))
 
 enum-told-2 : tie.Need-enum-told-2
 enum-told-2 c = search needs
 
+enum-told-3 : tie.Need-enum-told-3
+enum-told-3 c = search needs
+
 rebased-requires-2 : tie.Need-rebased-requires-2
 rebased-requires-2 c κs =
-    let m = came (c .before .before) in
-    let k = carries m in
-    can-return (k .sound) _ (place (m .before) .place-of .ensures) (k .same)
+    let put = c .before .before in
+    let m = put .before .before in
+    can-return (carries m .sound) _ (place (m .before) .place-of .ensures) (carries m .same) (put-at put)
 
 returns : tie.Need-returns
 returns c =
     let told = c .before in
-    let m = came (told .before .before) in
-    let e = returning (m .match .decided) _ (m .match .c) (told .enum-told2 .given .1) (c .rebased2 .ensures) ∙ carries m .whole in
+    let put = told .before .before in
+    let m = put .before .before in
+    let e = returning (place (m .before) .before .args .bio) (m .match .decided) _ (m .match .c) (put-at put) (told .enum-told3 .given .1) (c .rebased2 .ensures) ∙ carries m .whole in
     (e, submit-on-paper _ _ e)
 
 returns-2 : tie.Need-returns-2
 returns-2 c =
-    let m = came (c .before) in
-    let e = staying (m .match .decided) _ (m .match .c) (c .match2 .keys2) ∙ carries m .whole in
+    let put = c .before in
+    let m = put .before .before in
+    let e = staying (place (m .before) .before .args .bio) (m .match .decided) _ (m .match .c) (put-at put) (c .match3 .keys2) ∙ carries m .whole in
     (e, submit-on-paper _ _ e)
 
 pub submit-spec : {M : Type 1} → statement M
@@ -204,9 +237,14 @@ submit-spec =
     decide-requires-2
     mul-next
     element-set-from-next
-    mul-queued
-    element-set-from-queued
+    enum-known-queueing
+    mul-queue-3
+    element-copy-out-queue-3
+    joined-requires
+    mul-longer
+    element-set-from-longer
     enum-told-2
+    enum-told-3
     rebased-requires-2
     returns
     returns-2)
