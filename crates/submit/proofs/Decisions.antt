@@ -16,11 +16,10 @@ use denote.Enum.Declared.{tagOf}
 use borrow.Author.Tests.{lt-ltb, le-ltb, ltb-true, ltb-false}
 use Rattle.rules.specs.Numbers.{nodesMost, queueRoom}
 use Rattle.rules.specs.Words.{has}
-use Rattle.rules.specs.Cost.{bioInRange}
 use Rattle.rules.specs.Tree.{isLeaf}
 use Rattle.rules.specs.Budget.{emptyRow, emptyQueue, rowAt, queueAt, shareAt, withBooks, putLeaf, pushed, rebased, entered, endsDonation}
 use Rattle.rules.specs.Entries.{costing, submitted}
-use Rattle.rules.specs.Invariant.{worthMost, Sound, SoundQueue, SoundModel, SoundTree, Within}
+use Rattle.rules.specs.Invariant.{worthMost, Sound, SoundQueue, SoundTree, Within}
 use Rattle.rules.specs.Laws.Bools.{never, is-false}
 use Rattle.rules.specs.Laws.Trees.{leaves-are, root-no-leaf}
 use Rattle.rules.specs.Laws.Submits.{put-each}
@@ -30,9 +29,7 @@ use Rattle.rules.specs.Laws.Resharing.{activeWith, entering-keeps}
 use Rattle.rules.specs.Laws.Decisions.{entered-active}
 use Rattle.rules.specs.declared.units.Abs.{Abs}
 use Rattle.rules.specs.declared.cost.Bio.{Bio}
-use Rattle.rules.specs.declared.cost.Model.{Model}
 use Rattle.rules.specs.declared.tree.Tree.{Tree}
-use Rattle.rules.specs.declared.budget.Row.{Row}
 use Rattle.rules.specs.declared.budget.Queue.{Queue}
 use Rattle.rules.specs.declared.budget.Controller.{Controller}
 use Rattle.rules.specs.declared.budget.Submitted.{Submitted}

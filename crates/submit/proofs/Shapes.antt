@@ -2,27 +2,24 @@
 -- Assumes nothing.
 use mathlib.Core.Path.{_≡_, refl, sym, ap, _∙_}
 use mathlib.Core.Bool.{Bool, true, false, cond, _&&_}
-use Prim.Native.Nat.{ℕ, _+_, _*_, _≤_, _<_}
-use native.Mathlib.Nat.{mul-le-mul, le-trans}
+use Prim.Native.Nat.{ℕ, _+_, _≤_, _<_}
 use native.Mathlib.Omega.{arith}
 use borrow.Author.Tests.{le-leb, lt-leb, lt-ltb, le-ltb, leb-false}
 use lib.Dec.{leb}
-use lib.ListN.{getD}
 use lib.Seq.{set-getD}
 use Rattle.rules.specs.Numbers.{nodesMost, queueRoom, costMost, debtMost}
 use Rattle.rules.specs.Words.{has}
 use Rattle.rules.specs.Cost.{endOf, isForced, bioInRange}
 use Rattle.rules.specs.Tree.{isLeaf}
-use Rattle.rules.specs.Budget.{emptyRow, emptyQueue, rowAt, queueAt, shareAt, putLeaf, rebased, reshared, entered, answerTo, rowAfter, queueAfter, endsDonation, answerIn, applied, settled, submission, wouldBe}
+use Rattle.rules.specs.Budget.{emptyRow, emptyQueue, rowAt, queueAt, shareAt, putLeaf, rebased, reshared, entered, rowAfter, queueAfter, endsDonation, answerIn, applied, settled, submission, wouldBe}
 use Rattle.rules.specs.Refusals.{firstOf, costChecks, roomChecks, submitChecks}
 use Rattle.rules.specs.Entries.{costing, costingBy, submittedBy, submitted}
-use Rattle.rules.specs.Invariant.{worthMost, Sound, SoundModel, SoundTree, Within}
+use Rattle.rules.specs.Invariant.{Sound, SoundModel, SoundTree, Within}
 use Rattle.rules.specs.Laws.Costs.{priced-sound, bio-in-range, costing-costs-exactly-when}
-use Rattle.rules.specs.Laws.Trees.{leaf-last, last-most, leaves-are}
-use Rattle.rules.specs.Laws.Resharing.{Reweighed, active-node, activeWith, activated-is, entering-keeps, entering-reweighs, entered-is-active}
-use Rattle.rules.specs.Laws.Submits.{costIn, put-each, reweighed-debt, reweighed-queue, reweighed-cost}
+use Rattle.rules.specs.Laws.Trees.{leaf-last, last-most}
+use Rattle.rules.specs.Laws.Resharing.{Reweighed, activeWith, activated-is, entering-keeps, entering-reweighs, entered-is-active}
+use Rattle.rules.specs.Laws.Submits.{costIn, reweighed-debt, reweighed-queue, reweighed-cost}
 use Rattle.rules.specs.Laws.Bools.{never}
-use Rattle.rules.specs.Laws.Tables.{getD-inside}
 use Rattle.rules.specs.Laws.Verdicts.{first-refused}
 use Rattle.rules.specs.Laws.Answers.{issued-fits}
 use Rattle.rules.specs.Laws.Decisions.{entered-active}

@@ -1,6 +1,7 @@
 // Submitting a bio: refusals 4 to 8 in their order, an inactive leaf's activation, the answer, and what it does to the
 // leaf and to a donation. What happens inside one row and one queue is the crate leaf's. No node but the bio's is touched
-// unless shares change.
+// unless shares change. `decide` says it all by what it is shown of one leaf, so that it stands once: who holds the state,
+// `submit` here or a run of calls, carries it out where the state stands.
 ghost use mathlib.Core.Path.{_≡_};
 ghost use Prim.Native.Nat.{_≤_, _<_};
 ghost use Rattle.rules.specs.Numbers.{costMost, debtMost, nodesMost, queueRoom};
@@ -196,7 +197,7 @@ pub fn decide(bio: Bio, node: usize, view: View) -> Decision
     let costing = cost::cost_of(model, row, bio);
     match costing {
         Costing::Costs(cost) => {
-            // "1. An inactive leaf becomes active .."
+            // "1. An inactive leaf becomes active .." first; until then the bio is not judged.
             if !sets::has(view.active, node) {
                 return Decision {
                     answer: Answer::Waits,

@@ -1,6 +1,5 @@
 -- `joined` meets its contract: a bio that waits has room.
 -- Assumes nothing.
-use borrow.Author.Needs.{needs}
 use Rattle.rules.specs.Budget.{queueAfter}
 use Rattle.submit.proofs.joined.Statement.{statement}
 use Rattle.submit.proofs.joined.Tie as tie
