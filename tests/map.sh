@@ -91,7 +91,7 @@ is_there() { [ -e "$1" ] || compgen -G "$1.*" >"$work/found"; }
 for document in README.md docs/*.md; do
     while read -r path; do
         is "$document names $path, which is not there" is_there "$path"
-    done < <(quoted <"$document" | sed 's|^\./||; s/ .*//' | grep -E '^(\.ci|agreement|bench|cases|crates|docs|examples|second|tests)/' | sort -u)
+    done < <(quoted <"$document" | sed 's|^\./||; s/ .*//' | grep -E '^(\.ci|agreement|bench|cases|crates|docs|examples|second|tests|tools)/' | sort -u)
 done
 
 # ---- every theorem: a word of small letters with hyphens is one of ours, or a stored case

@@ -199,7 +199,7 @@ mkfifo pipe
 (timeout "$limit" "${tested[@]}" <pipe >out 2>err) &
 exec 3>pipe
 head -c 85 whole >&3
-for ((i = 0; i < 100; i++)); do [ -s out ] && break; sleep 0.05; done
+for ((i = 0; i < limit * 20; i++)); do [ -s out ] && break; sleep 0.05; done
 is "a line is there before the trace ends" [ "$(cat out)" = "W 7" ]
 tail -c +86 whole >&3
 exec 3>&-
@@ -442,7 +442,7 @@ for signal in TERM HUP; do
     waited=$!
     exec 4>fed
     head -c 85 whole >&4
-    for ((i = 0; i < 100; i++)); do [ -s out ] && break; sleep 0.05; done
+    for ((i = 0; i < limit * 20; i++)); do [ -s out ] && break; sleep 0.05; done
     is "./replay: it waits for more" [ "$(cat out)" = "W 7" ]
     kill -s "$signal" "$waited"
     wait "$waited" 2>wait.log
@@ -522,7 +522,7 @@ timeout "$limit" cat given >held &
 reader=$!
 "$wrapper" whole >out 2>err &
 waited=$!
-for ((i = 0; i < 100; i++)); do grep -qs '^rt: b' new/target/replay.log && break; sleep 0.05; done
+for ((i = 0; i < limit * 20; i++)); do grep -qs '^rt: b' new/target/replay.log && break; sleep 0.05; done
 kill -s TERM "$waited"
 wait "$waited" 2>wait.log
 is "./replay: TERM ends a build" [ $? -eq 143 ]

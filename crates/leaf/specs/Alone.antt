@@ -13,21 +13,21 @@ use Rattle.rules.specs.declared.budget.Queue.{Queue}
 use Rattle.rules.specs.declared.refusals.Answer.{Answer}
 
 -- a queue of which nothing is known but how many wait
-abbrev pub counted : ℕ → Queue
-counted waiting = record { ids = []; costs = []; head = 0; len = waiting }
+abbrev pub lengthOnly : ℕ → Queue
+lengthOnly waiting = record { ids = []; costs = []; head = 0; len = waiting }
 
 -- ---- the rules, by the count alone
 abbrev pub answerWith : Bool → Abs → ℕ → Row → ℕ → Answer
-answerWith forced cost share row waiting = answerTo forced cost share row (counted waiting)
+answerWith forced cost share row waiting = answerTo forced cost share row (lengthOnly waiting)
 
 abbrev pub cappedWith : Row → ℕ → Row
-cappedWith row waiting = capped row (counted waiting)
+cappedWith row waiting = capped row (lengthOnly waiting)
 
 abbrev pub staysWith : Row → ℕ → Bool
-staysWith row waiting = stays row (counted waiting)
+staysWith row waiting = stays row (lengthOnly waiting)
 
 abbrev pub isDonorWith : ℕ → ℕ → Row → ℕ → Bool
-isDonorWith target base row waiting = isDonor target base row (counted waiting)
+isDonorWith target base row waiting = isDonor target base row (lengthOnly waiting)
 
 -- ---- nothing is lost by it: of the cap and of who stays by definition, of the other two by cases
 pub answer-by-count : (forced : Bool) (cost : Abs) (share : ℕ) (row : Row) (q : Queue)

@@ -10,7 +10,7 @@ use lib.Dec.{ltb}
 use lib.ListN.{length}
 use borrow.Author.Tests.{not-true, ltb-false}
 use Rattle.rules.specs.Budget.{popped, oldestId, oldestCost, charged, owes, fits}
-use Rattle.rules.specs.Tick.{Release, noRelease, andFirst, andCapped, andRepaid, Turn, gained, repayment, repaid, releaseIn, released, capped, turn, lentAfter}
+use Rattle.rules.specs.Tick.{Release, noRelease, andFirst, andCapped, andRepaid, gained, repayment, repaid, releaseIn, released, capped, turn, lentAfter}
 use Rattle.rules.specs.Laws.Bools.{and-left, and-right}
 use Rattle.rules.specs.declared.units.Virt.{Virt}
 use Rattle.rules.specs.declared.budget.Row.{Row}

@@ -39,7 +39,7 @@ use Rattle.rules.specs.declared.refusals.Costing.{Costing}
 use Rattle.rules.specs.declared.refusals.Costing.the-variants.{Costs, Refused as Uncosted}
 use Rattle.rules.specs.declared.refusals.Answer.{Answer}
 use Rattle.rules.specs.declared.refusals.Answer.the-variants.{Refused as Declined}
-use Rattle.leaf.specs.Alone.{counted}
+use Rattle.leaf.specs.Alone.{lengthOnly}
 use Rattle.leaf.specs.Fit.{active-is-fit}
 use Rattle.submit.specs.declared.Queueing.the-variants.{Stays, Joins}
 use Rattle.submit.specs.declared.Judged.{Judged}
@@ -81,8 +81,8 @@ module _ (b : Bio) (n : ℕ) (v : View) where
 
 -- ---- what a state shows
 -- an element read past the queues' end would be another empty one; inside it makes no difference
-pub queue-read : {c : Controller} → Sound c → {n : ℕ} → n < nodesMost → getD (c .queues) n (counted 0) ≡ queueAt c n
-queue-read {c} s {n} h = getD-inside (c .queues) n (counted 0) emptyQueue (omega (arith, s .queues-all, h))
+pub queue-read : {c : Controller} → Sound c → {n : ℕ} → n < nodesMost → getD (c .queues) n (lengthOnly 0) ≡ queueAt c n
+queue-read {c} s {n} h = getD-inside (c .queues) n (lengthOnly 0) emptyQueue (omega (arith, s .queues-all, h))
 
 pub seen : {c : Controller} → Sound c → {n : ℕ} → n < nodesMost → _≡_ {A = View} (record {
   leaves = c .leaves;
@@ -91,7 +91,7 @@ pub seen : {c : Controller} → Sound c → {n : ℕ} → n < nodesMost → _≡
   model = c .model;
   share = shareAt c n;
   row = rowAt c n;
-  waiting = getD (c .queues) n (counted 0) .len;
+  waiting = getD (c .queues) n (lengthOnly 0) .len;
 })
     (viewAt n c)
 seen s h = rw (queue-read s h)
@@ -300,7 +300,7 @@ module _ {c : Controller} (s : Sound c) (b : Bio) {n : ℕ} (p : n ≡ placeOf b
 
   -- the queue that a bio joins, as the code reads it
   pub can-join : {k : Abs} → r .queue ≡ Joins k
-      → SoundQueue (getD (c .queues) n (counted 0)) × (getD (c .queues) n (counted 0) .len < queueRoom)
+      → SoundQueue (getD (c .queues) n (lengthOnly 0)) × (getD (c .queues) n (lengthOnly 0) .len < queueRoom)
   can-join {k} i =
       rw (queue-read s (at-node p (place-inside b)))
       (s .queue n, joins-room b n (viewAt n c) k (rw e at i))

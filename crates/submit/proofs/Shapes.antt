@@ -39,7 +39,7 @@ use Rattle.rules.specs.declared.refusals.Costing.{Costing}
 use Rattle.rules.specs.declared.refusals.Costing.the-variants.{Costs, Refused as Uncosted}
 use Rattle.rules.specs.declared.refusals.Answer.{Answer}
 use Rattle.rules.specs.declared.refusals.Answer.the-variants.{Issued, Waits, OnDebt, Refused as Declined}
-use Rattle.leaf.specs.Alone.{counted, answerWith, answer-by-count, notedAt}
+use Rattle.leaf.specs.Alone.{lengthOnly, answerWith, answer-by-count, notedAt}
 use Rattle.leaf.specs.Fit.{CanTake}
 use Rattle.submit.specs.declared.Queueing.{Queueing}
 use Rattle.submit.specs.declared.Queueing.the-variants.{Stays, Joins}
@@ -48,32 +48,32 @@ use Rattle.submit.specs.OnLeaf.{CanJudge, queueing, queued, onLeafBy, on
 
 -- ---- refusals 7 and 8
 module _ (a : Answer) (cost : Abs) (row : Row) (n : ℕ) where
-  pub full : a ≡ Waits → queueRoom ≤ n → Refused QueueFull ≡ firstOf (roomChecks a cost row (counted n))
+  pub full : a ≡ Waits → queueRoom ≤ n → Refused QueueFull ≡ firstOf (roomChecks a cost row (lengthOnly n))
   unfolding roomChecks
   full e l = rw (e, le-leb queueRoom n l)
 
-  pub place : a ≡ Waits → n < queueRoom → Accepted ≡ firstOf (roomChecks a cost row (counted n))
+  pub place : a ≡ Waits → n < queueRoom → Accepted ≡ firstOf (roomChecks a cost row (lengthOnly n))
   unfolding roomChecks
   place e l = rw (e, lt-leb queueRoom n l)
 
-  pub over : a ≡ OnDebt → debtMost < row .debt .0 + cost .0 → Refused DebtFull ≡ firstOf (roomChecks a cost row (counted n))
+  pub over : a ≡ OnDebt → debtMost < row .debt .0 + cost .0 → Refused DebtFull ≡ firstOf (roomChecks a cost row (lengthOnly n))
   unfolding roomChecks
   over e l = rw (e, lt-ltb debtMost (row .debt .0 + cost .0) l)
 
-  pub under : a ≡ OnDebt → row .debt .0 + cost .0 ≤ debtMost → Accepted ≡ firstOf (roomChecks a cost row (counted n))
+  pub under : a ≡ OnDebt → row .debt .0 + cost .0 ≤ debtMost → Accepted ≡ firstOf (roomChecks a cost row (lengthOnly n))
   unfolding roomChecks
   under e l = rw (e, le-ltb debtMost (row .debt .0 + cost .0) l)
 
-  pub issues : a ≡ Issued → Accepted ≡ firstOf (roomChecks a cost row (counted n))
+  pub issues : a ≡ Issued → Accepted ≡ firstOf (roomChecks a cost row (lengthOnly n))
   unfolding roomChecks
   issues e = rw e
 
-  pub declines : (x : Refusal) → a ≡ Declined x → Accepted ≡ firstOf (roomChecks a cost row (counted n))
+  pub declines : (x : Refusal) → a ≡ Declined x → Accepted ≡ firstOf (roomChecks a cost row (lengthOnly n))
   unfolding roomChecks
   declines x e = rw e
 
 -- ---- a bio on its leaf: the answer and the verdict, as the code works them out
-placed : (cost : Abs) (row : Row) (n : ℕ) → firstOf (roomChecks Waits cost row (counted n)) ≡ Accepted → n < queueRoom
+placed : (cost : Abs) (row : Row) (n : ℕ) → firstOf (roomChecks Waits cost row (lengthOnly n)) ≡ Accepted → n < queueRoom
 unfolding roomChecks
 placed cost row n = go (leb queueRoom n) refl
   where
@@ -83,19 +83,19 @@ placed cost row n = go (leb queueRoom n) refl
 
 module _ (waiting : ℕ) {b : Bio} {cost : Abs} {share : ℕ} {row : Row} {forced : Bool} {answer : Answer} {verdict : Verdict}
     (can : CanJudge b cost share row) (f : forced ≡ isForced b) (a : answer ≡ answerWith forced cost share row waiting)
-    (v : verdict ≡ firstOf (roomChecks answer cost row (counted waiting)))
+    (v : verdict ≡ firstOf (roomChecks answer cost row (lengthOnly waiting)))
   where
     answer-is : answer ≡ answerWith (isForced b) cost share row waiting
     answer-is = a ∙ ap (λ (x : Bool). answerWith x cost share row waiting) f
 
-    verdict-is : verdict ≡ firstOf (roomChecks (answerWith (isForced b) cost share row waiting) cost row (counted waiting))
-    verdict-is = v ∙ ap (λ (x : Answer). firstOf (roomChecks x cost row (counted waiting))) answer-is
+    verdict-is : verdict ≡ firstOf (roomChecks (answerWith (isForced b) cost share row waiting) cost row (lengthOnly waiting))
+    verdict-is = v ∙ ap (λ (x : Answer). firstOf (roomChecks x cost row (lengthOnly waiting))) answer-is
 
     pub can-take : CanTake answer cost share row
     can-take = record {
       books = can .books;
       cheap = can .cheap;
-      fitting = λ i. issued-fits cost share row (counted waiting) forced (sym a ∙ i);
+      fitting = λ i. issued-fits cost share row (lengthOnly waiting) forced (sym a ∙ i);
     }
 
     pub accepts : verdict ≡ Accepted → {end : ℕ} {taken last : Row} {q : Queueing} → end ≡ endOf b
@@ -118,9 +118,9 @@ pub joins-with-room : (b : Bio) (cost : Abs) (share : ℕ) (row : Row) (waiting 
 unfolding onLeaf onLeafBy queueing
 joins-with-room b cost share row waiting k =
     let answer : Answer = answerWith (isForced b) cost share row waiting in
-    go answer (firstOf (roomChecks answer cost row (counted waiting))) refl
+    go answer (firstOf (roomChecks answer cost row (lengthOnly waiting))) refl
   where
-    go : (a : Answer) (v : Verdict) → firstOf (roomChecks a cost row (counted waiting)) ≡ v → onLeafBy v a b cost share row .queue ≡ Joins k
+    go : (a : Answer) (v : Verdict) → firstOf (roomChecks a cost row (lengthOnly waiting)) ≡ v → onLeafBy v a b cost share row .queue ≡ Joins k
         → waiting < queueRoom
     go Waits Accepted e i = placed cost row waiting e
     go Issued Accepted e i = never (cc)
@@ -141,7 +141,7 @@ pub no-budget-gained : (b : Bio) (cost : Abs) (share : ℕ) (row : Row) (waiting
 unfolding onLeaf onLeafBy
 no-budget-gained b cost share row waiting =
     let answer : Answer = answerWith (isForced b) cost share row waiting in
-    go answer (firstOf (roomChecks answer cost row (counted waiting)))
+    go answer (firstOf (roomChecks answer cost row (lengthOnly waiting)))
   where
     go : (a : Answer) (v : Verdict) → onLeafBy v a b cost share row .row .budget .0 ≤ row .budget .0
     go a Accepted = no-more a cost share row

@@ -16,7 +16,7 @@ use Rattle.rules.specs.declared.refusals.Verdict.the-variants.{Accepted, Refuse
 use Rattle.rules.specs.declared.refusals.Answer.{Answer}
 use Rattle.rules.specs.declared.refusals.Answer.the-variants.{Issued, Waits, OnDebt, Refused as Declined}
 use Rattle.leaf.specs.Fit.{FitRow}
-use Rattle.leaf.specs.Alone.{counted, answerWith}
+use Rattle.leaf.specs.Alone.{lengthOnly, answerWith}
 use Rattle.submit.specs.declared.Queueing.{Queueing}
 use Rattle.submit.specs.declared.Queueing.the-variants.{Stays, Joins}
 use Rattle.submit.specs.declared.Judged.{Judged}
@@ -47,4 +47,4 @@ onLeafBy (Refused x) answer b cost share row = record { answer = Declined x; row
 unfoldable pub onLeaf : Bio → Abs → ℕ → Row → ℕ → Judged
 onLeaf b cost share row waiting =
     let answer : Answer = answerWith (isForced b) cost share row waiting in
-    onLeafBy (firstOf (roomChecks answer cost row (counted waiting))) answer b cost share row
+    onLeafBy (firstOf (roomChecks answer cost row (lengthOnly waiting))) answer b cost share row

@@ -9,7 +9,7 @@ ghost use Rattle.rules.specs.Budget.{pushed, endsDonation, wouldBe};
 ghost use Rattle.rules.specs.Refusals.{firstOf, roomChecks, answerPaper, answerValues, paperOf, submitChecks};
 ghost use Rattle.rules.specs.Entries.{submitted};
 ghost use Rattle.rules.specs.Invariant.{Sound, SoundQueue};
-ghost use Rattle.leaf.specs.Alone.{counted};
+ghost use Rattle.leaf.specs.Alone.{lengthOnly};
 ghost use Rattle.submit.specs.OnLeaf.{CanJudge, queueing, onLeaf};
 ghost use Rattle.submit.specs.Decision.{placeOf, CanDecide, sharesAfter, decision};
 use rules::budget::Controller;
@@ -46,7 +46,7 @@ pub fn place_of(bio: Bio) -> usize
 // Refusals 7 and 8: by the answer, how many wait, and what is owed.
 fn room(answer: Answer, cost: Abs, row: Row, waiting: u8) -> Verdict
     requires { ⌜ (row .debt .0 ≤ debtMost) × (cost .0 ≤ costMost) ⌝ }
-    ensures { λ r. ⌜ r ≡ firstOf (roomChecks answer cost row (counted waiting)) ⌝ }
+    ensures { λ r. ⌜ r ≡ firstOf (roomChecks answer cost row (lengthOnly waiting)) ⌝ }
 {
     match answer {
         Answer::Waits => {

@@ -25,7 +25,7 @@ use Rattle.rules.specs.declared.refusals.Refusal.the-variants.{FewPlaces}
 use Rattle.rules.specs.declared.refusals.Verdict.{Verdict}
 use Rattle.rules.specs.declared.refusals.Verdict.the-variants.{Accepted, Refused}
 use Rattle.rules.specs.declared.refusals.Count.the-variants.{Refused as Unticked}
-use Rattle.leaf.specs.Alone.{counted}
+use Rattle.leaf.specs.Alone.{lengthOnly}
 use Rattle.tick.specs.Clocks.{clockChecks}
 
 -- ---- what waits, counted leaf by leaf
@@ -42,7 +42,7 @@ unfolding sumTo
 none-counted c = record { from = omega arith; upto = omega arith; sum = refl }
 
 module _ {c : Controller} (sound : Sound c) {waiting n : ℕ} (below : Counted c waiting n) where
-  module _ (h : n < nodesMost) {len : ℕ} (e : len ≡ getD (c .queues) n (counted 0) .len) where
+  module _ (h : n < nodesMost) {len : ℕ} (e : len ≡ getD (c .queues) n (lengthOnly 0) .len) where
     pub one-counted : Counted c (waiting + len) (n + 1)
     one-counted =
         let next : n + 1 - 1 ≡ n = omega arith in
@@ -50,7 +50,7 @@ module _ {c : Controller} (sound : Sound c) {waiting n : ℕ} (below : Counted c
           from = omega arith;
           upto = omega arith;
           sum =
-              rw (next, sum-step (λ k. queueAt c k .len) n (below .from), below .sum, e, getD-inside (c .queues) n (counted 0) emptyQueue (rw (sound .queues-all) h));
+              rw (next, sum-step (λ k. queueAt c k .len) n (below .from), below .sum, e, getD-inside (c .queues) n (lengthOnly 0) emptyQueue (rw (sound .queues-all) h));
         }
 
     pub count-small : waiting + len ≤ waitingMost

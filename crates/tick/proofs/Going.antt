@@ -32,7 +32,7 @@ use Rattle.rules.specs.declared.refusals.Count.the-variants.{Released}
 use Rattle.rules.specs.declared.refusals.Verdict.the-variants.{Accepted}
 use Rattle.sets.specs.Lowest.{Lowest}
 use Rattle.sets.specs.Visit.{Passed, root-passed, nothing-left, not-before, member, none-between, passes}
-use Rattle.leaf.specs.Alone.{counted}
+use Rattle.leaf.specs.Alone.{lengthOnly}
 use Rattle.leaf.specs.Fit.{Fit, FitRow, CanRelease, gainMost, active-is-fit}
 use Rattle.leaf.specs.Turns.{settledOf, cut, Releases, release-cuts, none-due, some-due, due-can-release}
 use Rattle.leaf.specs.declared.tick.Settled.{Settled}
@@ -77,7 +77,7 @@ same-walking o e a walking = rw (o, e, a) walking
 
 -- the queue that the code reads: inside the list, whatever stands past its end
 abbrev read : List Queue → ℕ → Queue
-read queues n = getD queues n (counted 0)
+read queues n = getD queues n (lengthOnly 0)
 
 -- a queue's head and its length are stored one after the other
 abbrev headAt : List Queue → ℕ → ℕ → List Queue
@@ -88,7 +88,7 @@ cutAt queues n head len = set (headAt queues n head) n (cut (read (headAt queues
 
 cut-once : (queues : List Queue) (n head len : ℕ) → n < length queues → cutAt queues n head len ≡ set queues n (cut (read queues n) head len)
 cut-once queues n head len l =
-    rw (getD-set-same queues n (cut (read queues n) head (read queues n .len)) (counted 0) l)
+    rw (getD-set-same queues n (cut (read queues n) head (read queues n .len)) (lengthOnly 0) l)
     (set-set queues n (cut (read queues n) head (read queues n .len)) (cut (read queues n) head len))
 
 module _ {c : Controller} (sound : Sound c) (g : Virt) where
@@ -162,8 +162,8 @@ module _ {c : Controller} (sound : Sound c) (g : Virt) where
 
     queue-here : read (s .queues) n ≡ queueAt c n
     queue-here =
-        place-here (queueOf g c) (c .queues) (s .queues) n (counted 0) (sound .queues-all) (here .queues) (low .node)
-        ∙ getD-inside (c .queues) n (counted 0) emptyQueue (rw (sound .queues-all) (low .node))
+        place-here (queueOf g c) (c .queues) (s .queues) n (lengthOnly 0) (sound .queues-all) (here .queues) (low .node)
+        ∙ getD-inside (c .queues) n (lengthOnly 0) emptyQueue (rw (sound .queues-all) (low .node))
 
     share-here : shareAt s n ≡ shareAt c n
     share-here = ap (λ (k : Controller). shareAt k n) (here .rest)

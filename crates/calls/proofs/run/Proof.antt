@@ -26,6 +26,9 @@ use Rattle.rules.specs.declared.budget.Controller.{Controller}
 use Rattle.rules.specs.declared.budget.Outcome.{Outcome}
 use Rattle.rules.specs.declared.budget.Submitted.{Submitted}
 use Rattle.rules.specs.declared.replay.Call.{Call}
+use Rattle.sets.specs.Visit.{less-left}
+use Rattle.leaf.specs.Alone.{lengthOnly}
+use Rattle.leaf.specs.Fit.{gainMost}
 use Rattle.submit.specs.Decision.{viewAt, decision}
 use Rattle.submit.proofs.Decisions.{place-inside, queue-read, seen, can-decide, joining, as-it-was, can-join, stands}
 use Rattle.calls.specs.Calls.{planLinesOf}
@@ -410,8 +413,8 @@ released-requires c κs =
     let at = walk-at node in
     let fits =
     release-fits (sound-at at) (at .before .growth .result) (at .loop2 .inv) (node .lowest .ensures) (share .wide .ensures)
-    (settled .settle .ensures) (test .if1 .taken) (passing (at .before .before) .room) (small-at at) in
-    (fits .0, subst (λ (xs : List ℕ). getD (at .loop2 .c .queues) (node .lowest .result) (counted 0) .len ≤ length xs) (rest-at at) (fits .1))
+    (settled .settle .ensures) (test .if1 .taken) (passing (at .before .before) .room) (gain-small at) in
+    (fits .0, subst (λ (xs : List ℕ). getD (at .loop2 .c .queues) (node .lowest .result) (lengthOnly 0) .len ≤ length xs) (rest-at at) (fits .1))
 
 mul-row-2 : tie.Need-mul-row-2 Inv-loop2 μ-loop2 Inv-loop μ-loop
 mul-row-2 c = record { fits = omega (arith, c .before .before .before .before .before .before .before .before .before .before .before .lowest .ensures .node) }

@@ -12,7 +12,7 @@ use Rattle.rules.specs.Plan.{quietIn, activeAfter, donorsIn}
 use Rattle.rules.specs.Laws.Tables.{getD-inside}
 use Rattle.rules.specs.Laws.Sweeps.{swept, place-put, places-done}
 use Rattle.rules.specs.declared.budget.Queue.{Queue}
-use Rattle.leaf.specs.Alone.{counted}
+use Rattle.leaf.specs.Alone.{lengthOnly}
 use Rattle.plan.proofs.Steps.{Usages, Waiting, used-little, quiet-by-usages, active-by-waiting, targets-by-usages, donors-by-waiting, still-within, ready, closed-worthy, is-plan}
 use Rattle.plan.proofs.parts.Statement.{statement}
 use Rattle.plan.proofs.parts.Tie as tie
@@ -76,7 +76,7 @@ loop-again c =
     let node : at .loop .n < 64 = search needs in (
       place-put (λ k. rowAt s k .usage) (replicate 64 (abs 0)) (at .loop .usages) (at .loop .n) (abs 0) refl (at .loop .inv .0) node _ refl,
       place-put (λ k. queueAt s k .len) (replicate 64 0) (at .loop .waiting) (at .loop .n) 0 refl (at .loop .inv .1) node _
-          (ap (λ (q : Queue). q .len) (getD-inside (s .queues) (at .loop .n) (counted 0) emptyQueue (rw (began .pre .0 .queues-all) node))),
+          (ap (λ (q : Queue). q .len) (getD-inside (s .queues) (at .loop .n) (lengthOnly 0) emptyQueue (rw (began .pre .0 .queues-all) node))),
       omega arith,
     )
 

@@ -1,6 +1,6 @@
 -- `leaf::tick::is_due` meets its contract: by whether the leaf owes.
 -- Assumes nothing.
-use mathlib.Core.Path.{_≡_, sym, _∙_}
+use mathlib.Core.Path.{sym, _∙_}
 use borrow.Author.Needs.{needs}
 use Rattle.leaf.proofs.tick.is_due.Statement.{statement}
 use Rattle.leaf.proofs.tick.is_due.Tie as tie
