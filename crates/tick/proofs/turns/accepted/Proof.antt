@@ -65,6 +65,27 @@ mul-queue c = record { fits = omega (arith, c .before .before .before .before .b
 element-copy-out-queue : tie.Need-element-copy-out-queue Inv-loop μ-loop
 element-copy-out-queue c = c .before .before .before .before .before .before .lowest .ensures .node
 
+-- above the needs that a lie about it may leave true: the first error is what is false
+loop-again : tie.Need-loop-again Inv-loop μ-loop
+loop-again c =
+    let settled = c .before .before .before in
+    let share = settled .before .before in
+    let node = share .before .before in
+    let at = node .before .before in
+    let grown = at .before in
+    let start = grown .before .before .before in
+    let sound = start .pre .0 in
+    ⊎-elim
+    (λ w.
+    same-walking (w .10) (w .11) (w .12)
+    (goes-on sound (grown .growth .result) (at .loop .inv) (node .lowest .ensures) (share .wide .ensures)
+    (settled .settle .ensures) (w .0 .taken) (start .pre .1 .room) (w .3 .ensures) (c .remove .ensures)))
+    (λ w.
+    same-walking (w .1) (w .2) (w .3)
+    (rests sound (grown .growth .result) (at .loop .inv) (node .lowest .ensures) (share .wide .ensures)
+    (settled .settle .ensures) (w .0 .left) (c .remove .ensures)))
+    (c .before .if1 .came)
+
 mul-released : tie.Need-mul-released Inv-loop μ-loop
 mul-released c =
     let node = c .before .before .before .before .before .before .before in
@@ -145,26 +166,6 @@ loop-less : tie.Need-loop-less Inv-loop μ-loop
 loop-less c =
     let node = c .before .before .before .before .before .before .before in
     less-left (node .before .before .loop .inv .passed) (node .lowest .ensures) (c .remove .ensures)
-
-loop-again : tie.Need-loop-again Inv-loop μ-loop
-loop-again c =
-    let settled = c .before .before .before in
-    let share = settled .before .before in
-    let node = share .before .before in
-    let at = node .before .before in
-    let grown = at .before in
-    let start = grown .before .before .before in
-    let sound = start .pre .0 in
-    ⊎-elim
-    (λ w.
-    same-walking (w .10) (w .11) (w .12)
-    (goes-on sound (grown .growth .result) (at .loop .inv) (node .lowest .ensures) (share .wide .ensures)
-    (settled .settle .ensures) (w .0 .taken) (start .pre .1 .room) (w .3 .ensures) (c .remove .ensures)))
-    (λ w.
-    same-walking (w .1) (w .2) (w .3)
-    (rests sound (grown .growth .result) (at .loop .inv) (node .lowest .ensures) (share .wide .ensures)
-    (settled .settle .ensures) (w .0 .left) (c .remove .ensures)))
-    (c .before .if1 .came)
 
 advanced-requires : tie.Need-advanced-requires Inv-loop μ-loop
 advanced-requires c κs =
