@@ -133,12 +133,7 @@ shared-requires c κs =
     ready (start (judged .before .before .before) .pre .0) (judged .before .is-quiet .result) (c .before .before .before .before .targets-in .result) (active-is judged)
     (c .before .before .before .before .before .base-shares .ensures) (donors-are (c .before))
 
-rebudgeted-requires : tie.Need-rebudgeted-requires Inv-loop μ-loop
-rebudgeted-requires c κs =
-    let closing = c .before .before .before .before .before in
-    let judged = closing .before .before .before .before .before .before .before in
-    closed-worthy (start (judged .before .before .before) .pre .0) (judged .before .is-quiet .result) (judged .active-after .result) (closing .closed-rows .ensures)
-
+-- above the need that a lie about it may leave true: the first error is what is false
 returns : tie.Need-returns Inv-loop μ-loop
 returns c =
     let closing = c .before .before .before .before .before .before in
@@ -148,6 +143,12 @@ returns c =
     is-plan s (quiet-is (judged .before)) (active-is judged) (closing .before .before .before .before .before .base-shares .ensures)
     (targets-by-usages s (usages-read read) (closing .before .before .before .before .targets-in .ensures)) (donors-are (closing .before)) (closing .closed-rows .ensures)
     (c .before .before .before .before .before .shared .ensures) (c .rebudgeted .ensures)
+
+rebudgeted-requires : tie.Need-rebudgeted-requires Inv-loop μ-loop
+rebudgeted-requires c κs =
+    let closing = c .before .before .before .before .before in
+    let judged = closing .before .before .before .before .before .before .before in
+    closed-worthy (start (judged .before .before .before) .pre .0) (judged .before .is-quiet .result) (judged .active-after .result) (closing .closed-rows .ensures)
 
 pub parts-spec : {M : Type 1} → statement M
 parts-spec =
