@@ -8,13 +8,12 @@ use Prim.Native.Nat.{ℕ, _+_, _-_, _≤_}
 use native.Mathlib.Omega.{arith}
 use lib.ListN.{length, take, drop, length-append, length-take, length-drop}
 use lib.Seq.{take-add, take-at, drop-at, length-take-le}
-use Rattle.rules.specs.Laws.Bools.{true-not-false}
 use Rattle.rules.specs.Chunks.{fed}
 use Rattle.rules.specs.Invariant.{Playing}
 use Rattle.rules.specs.declared.replay.Fed.{Fed}
 use Rattle.rules.specs.declared.replay.Pause.{Pause}
 use Rattle.rules.specs.declared.replay.Pause.the-variants.{Over, Bytes}
-use Rattle.replay.specs.Rounds.{Stands, waiting, Ended, partOf, Replayed, LeftOver, Onward, OneRound, Finished}
+use Rattle.replay.specs.Rounds.{Stands, waiting, Ended, partOf, Replayed, LeftOver, Onward, OneRound}
 use Rattle.replay.specs.declared.rounds.Standing.{Standing}
 use Rattle.replay.specs.declared.rounds.End.{End}
 use Rattle.replay.specs.declared.rounds.End.the-variants.{Over as EndOver, Unread, Unwritten}
@@ -40,12 +39,6 @@ unread-is-not-over e = cc
 
 pub unwritten-is-not-over : {pause : Pause} → Unwritten ≡ EndOver → pause ≡ Over
 unwritten-is-not-over e = cc
-
--- so nothing has to be shown of the last round of one that could not read
-pub unread-is-finished : Finished Unread
-unread-is-finished e =
-    let no : true ≡ false = cc in
-    absurd (true-not-false refl no)
 
 -- a run that goes on as it stands
 pub stays-so : {pause : Pause} {s : Standing} (chunk : List ℕ) → Stands s (length chunk) → s .going ≡ true

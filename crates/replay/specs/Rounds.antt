@@ -3,7 +3,7 @@
 -- brought those of the trace, is what `Ran` takes for granted; that they are as many is in `OneRound`.
 -- Assumes nothing.
 use mathlib.Core.Path.{_≡_, subst}
-use mathlib.Core.Bool.{true, false}
+use mathlib.Core.Bool.{true, false, cond}
 use mathlib.Core.List.{List, [], _++_}
 use Prim.Native.Nat.{ℕ, _≤_}
 use lib.ListN.{length, take, drop}
@@ -20,7 +20,7 @@ use Rattle.rules.specs.declared.replay.Pause.the-variants.{Over}
 use Rattle.steps.specs.Fed.{Feeds}
 use Rattle.replay.specs.declared.rounds.Standing.{Standing}
 use Rattle.replay.specs.declared.rounds.End.{End}
-use Rattle.replay.specs.declared.rounds.End.the-variants.{Over as EndOver, Unwritten}
+use Rattle.replay.specs.declared.rounds.End.the-variants.{Over as EndOver, Unread, Unwritten}
 
 -- ---- where a run stands: the bytes that wait are within the chunk buffer, of so much room
 abbrev pub Stands : Standing → ℕ → Type 0
@@ -71,18 +71,12 @@ pub record OneRound (s : Standing) (chunk : List ℕ) (room : ℕ) (r : Standing
   pub ends : r .going ≡ false → r .end ≡ EndOver
       → pauseOf (s .last) (readAt (waiting s chunk) (partOf s chunk room .place)) (r .replay) ≡ Over
 
--- ---- how a run ended: well, as whoever started it is told, only by a last round, in which the replay was over
-pub data Last : End → Type 0 where
-  last : {s r : Standing} {chunk after : List ℕ} {room : ℕ} → OneRound s chunk room r after → r .going ≡ false → Last (r .end)
-
-abbrev pub Ends : Standing → Type 0
-Ends s = s .going ≡ false → Last (s .end)
-
-abbrev pub Finished : End → Type 0
-Finished end = end ≡ EndOver → Last end
+-- ---- how a run ended: one that may still go on did not come to the end of its trace
+abbrev pub endingOf : Standing → End
+endingOf s = cond (s .going) Unread (s .end)
 
 abbrev pub Well : End → Type 0
-Well end = (end ≡ EndOver) × Last end
+Well end = end ≡ EndOver
 
 -- ---- a run: rounds with any room, each of which goes on, up to one that ends well. The bytes that are read make up the rest of the trace, of which
 -- none is left once a read said that it is at the end; the lines that are written make up what is printed

@@ -6,15 +6,11 @@ mod done;
 mod rounds;
 mod said;
 
-ghost use Rattle.replay.specs.Rounds.{Finished};
 use libc::STDIN_FILENO;
 use rounds::End;
 use rounds::replay_from;
-use rounds::unread;
 
-fn of_input() -> End
-    ensures { λ r. ⌜ Finished r ⌝ }
-{
+fn of_input() -> End {
     if libc::isatty(STDIN_FILENO) == 1 {
         said::waits();
     }
@@ -34,14 +30,12 @@ fn is_input(name: &[u8]) -> bool {
     name[0] == b'-'
 }
 
-fn of_file(place: usize) -> End
-    ensures { λ r. ⌜ Finished r ⌝ }
-{
+fn of_file(place: usize) -> End {
     let mut path = io::buffer();
     let length = os::arg(place, &mut path);
     if os::errno() != 0 {
         said::argument_unread();
-        return unread();
+        return End::Unread;
     }
     if is_input(&path[..length]) {
         return of_input();
@@ -49,7 +43,7 @@ fn of_file(place: usize) -> End
     let fd = os::open_read(&path[..length]);
     if fd < 0 {
         said::file_unread(&mut path[..length]);
-        return unread();
+        return End::Unread;
     }
     let end = replay_from(fd);
     match end {
@@ -61,16 +55,14 @@ fn of_file(place: usize) -> End
 }
 
 // What the arguments from this place on ask for.
-fn asked(place: usize) -> End
-    ensures { λ r. ⌜ Finished r ⌝ }
-{
+fn asked(place: usize) -> End {
     let words = os::arg_count();
     if words <= place {
         return of_input();
     }
     if words - place > 1 {
         said::too_many();
-        return unread();
+        return End::Unread;
     }
     of_file(place)
 }

@@ -3,15 +3,16 @@
 //
 // Proved is each round (`specs/Rounds`): what it replays, which lines then stand at the front of the line buffer, that it goes on
 // only where its writes took as many bytes as these lines have, what waits after it, and that a run ends well only where the
-// replay is over. No contract can say which bytes a write takes or a read brings. So three things are for a person to read:
+// replay is over. No contract can say which bytes a write takes or a read brings. So four things are for a person to read:
 // that `round` hands `write` the front of the line buffer, that `descriptor::write` and `read` hand the system what they are
-// lent, and that `replay_from` begins at the beginning and goes from round to round.
+// lent, that `replay_from` begins at the beginning and goes from round to round, and that the end of its last round is what the
+// caller is told.
 ghost use mathlib.Core.Path.{_≡_};
 ghost use mathlib.Core.Bool.{true};
 ghost use Prim.Native.Nat.{_≤_};
 ghost use lib.ListN.{length};
 ghost use Rattle.rules.specs.Invariant.{Playing};
-ghost use Rattle.replay.specs.Rounds.{Stands, Ended, Replayed, LeftOver, Onward, OneRound, Ends, Finished};
+ghost use Rattle.replay.specs.Rounds.{Stands, Ended, Replayed, LeftOver, Onward, OneRound, endingOf};
 use crate::descriptor::TRIES;
 use crate::descriptor::read;
 use crate::descriptor::write;
@@ -155,28 +156,18 @@ fn round(s: Standing, fd: i32, watched: bool, chunk: &mut [u8], out: &mut [u8]) 
     onward(pause, after, fd, watched, chunk)
 }
 
-// How a run that could not read ends.
-pub(crate) fn unread() -> End
-    ensures { λ r. ⌜ Finished r ⌝ }
-{
-    End::Unread
-}
-
-// How one ended that may go on: what it did not come to is unread.
+// Where the rounds are used up, what the run did not come to is unread.
 fn ending(s: Standing) -> End
-    requires { ⌜ Ends s ⌝ }
-    ensures { λ r. ⌜ Finished r ⌝ }
+    ensures { λ r. ⌜ r ≡ endingOf s ⌝ }
 {
     if s.going {
-        return unread();
+        return End::Unread;
     }
     let end = s.end;
     end
 }
 
-pub(crate) fn replay_from(fd: i32) -> End
-    ensures { λ r. ⌜ Finished r ⌝ }
-{
+pub(crate) fn replay_from(fd: i32) -> End {
     let watched = said::is_watched();
     let mut chunk = io::large_buffer();
     let mut out = io::large_buffer();

@@ -1,4 +1,4 @@
--- `replay::run::ended` meets its contract: what the run has stays, and it goes on no more.
+-- `replay::rounds::ended` meets its contract: what the run has stays, and it goes on no more.
 -- Assumes nothing.
 use borrow.Author.Needs.{needs}
 use Rattle.replay.proofs.rounds.ended.Statement.{statement}

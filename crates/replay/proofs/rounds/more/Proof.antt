@@ -1,4 +1,4 @@
--- `replay::run::more` meets its contract: what a read put behind the bytes that wait left them as they were.
+-- `replay::rounds::more` meets its contract: what a read put behind the bytes that wait left them as they were.
 -- Assumes nothing.
 use mathlib.Core.Path.{refl}
 use Prim.Native.Nat.{_-_}

@@ -1,4 +1,4 @@
--- `replay::run::onward` meets its contract, pause by pause.
+-- `replay::rounds::onward` meets its contract, pause by pause.
 -- Assumes nothing.
 use mathlib.Core.Path.{refl}
 use Rattle.replay.proofs.Round.{ends-so, paused-so, stays-so}

@@ -1,18 +1,16 @@
--- `replay::run::run` is safe and ends: the measure is the number of rounds that are left, and it stands well from round to round.
+-- `replay::rounds::replay_from` is safe and ends: the measure is the number of rounds that are left, and it stands well from round to round.
 -- Assumes nothing.
-use mathlib.Core.Path.{_≡_, refl, sym}
+use mathlib.Core.Path.{_≡_, sym}
 use Prim.Native.Nat.{zero-le}
 use lib.ListN.{length}
 use borrow.Author.Needs.{needs}
-use Rattle.rules.specs.Laws.Bools.{true-not-false}
-use Rattle.replay.specs.Rounds.{Stands, Ends}
-use Rattle.replay.specs.Rounds.Last.{last}
+use Rattle.replay.specs.Rounds.{Stands}
 use Rattle.replay.proofs.rounds.replay_from.Statement.{statement}
 use Rattle.replay.proofs.rounds.replay_from.Tie as tie
 
 abbrev Inv-loop : tie.InvT-loop
 Inv-loop fd watched chunk₀ out₀ s₀ rounds₀ chunk out s rounds =
-    Stands s (length chunk) × (65536 ≡ length chunk) × (65536 ≡ length out) × Ends s
+    Stands s (length chunk) × (65536 ≡ length chunk) × (65536 ≡ length out)
 
 abbrev μ-loop : tie.MeasureT-loop
 μ-loop fd watched chunk₀ out₀ s₀ rounds₀ chunk out s rounds = rounds
@@ -31,7 +29,7 @@ beginning-requires c κs = search needs
 
 loop-holds : tie.Need-loop-holds Inv-loop μ-loop
 loop-holds c =
-    ((c .beginning .ensures .1, zero-le), c .before .before .large-buffer .ensures, c .before .large-buffer2 .ensures, λ g. absurd (true-not-false refl g))
+    ((c .beginning .ensures .1, zero-le), c .before .before .large-buffer .ensures, c .before .large-buffer2 .ensures)
 
 slice-aggregate-round : tie.Need-slice-aggregate-round Inv-loop μ-loop
 slice-aggregate-round c = c .before .before .before .loop .inv .1
@@ -50,13 +48,13 @@ loop-less c = search needs
 
 loop-again : tie.Need-loop-again Inv-loop μ-loop
 loop-again c =
-    (c .before .before .round .ensures .stands, sym (c .before .chunk2 .given), sym (c .out2 .given), last (c .before .before .round .ensures))
+    (c .before .before .round .ensures .stands, sym (c .before .chunk2 .given), sym (c .out2 .given))
 
 no-progress-requires : tie.Need-no-progress-requires Inv-loop μ-loop
 no-progress-requires c κs = search needs
 
 ending-requires : tie.Need-ending-requires Inv-loop μ-loop
-ending-requires c κs = c .before .before .loop .inv .3
+ending-requires c κs = search needs
 
 returns : tie.Need-returns Inv-loop μ-loop
 returns c = search needs

@@ -1,4 +1,4 @@
--- `replay::run::replayed` meets its contract, by what `feed` ensures of the bytes that wait.
+-- `replay::rounds::replayed` meets its contract, by what `feed` ensures of the bytes that wait.
 -- Assumes nothing.
 use mathlib.Core.Path.{sym}
 use Prim.Native.Nat.{zero-le}

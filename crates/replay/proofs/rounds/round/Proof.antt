@@ -1,4 +1,4 @@
--- `replay::run::round` meets its contract: a feed, its lines written, what it leaves, and onward, or the end where not all was taken.
+-- `replay::rounds::round` meets its contract: a feed, its lines written, what it leaves, and onward, or the end where not all was taken.
 -- Assumes nothing.
 use mathlib.Core.Path.{refl}
 use Prim.Native.Nat.{_≤_}
