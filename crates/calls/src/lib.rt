@@ -37,7 +37,7 @@ fn wide(x: u32) -> u64
     x as u64
 }
 
-// What is read asks this of the controller.
+// The call that is asked of the controller by what was read, or none.
 fn call_of(read: Read) -> Call
     ensures { λ r. ⌜ r ≡ callOf read ⌝ }
 {
@@ -79,7 +79,7 @@ fn is_running(phase: Phase) -> bool
     }
 }
 
-// A call in its phase.
+// Is what was read a call in its phase?
 pub fn runs(phase: Phase, read: Read) -> bool
     ensures { λ b. ⌜ b ≡ runsOf phase read ⌝ }
 {
@@ -119,7 +119,7 @@ fn put_planned(answer: Verdict, active: u64, shares: &[u32; 64], out: &mut [u8])
     }
 }
 
-// At most so many calls in a row, from a place of the trace on, while the line buffer has room for any.
+// Runs at most `most` calls in a row, from a place of the trace on, while the line buffer has room for any call's lines.
 pub fn run(mut c: Controller, trace: &[u8], place: usize, most: usize, out: &mut [u8]) -> Ran
     requires { ⌜ Sound c ⌝ }
     ensures { λ r. ⌜ RanAs (runFrom most (now (trace .entry)) (length (now (out .entry))) place c) r (now (out .entry)) (now (out .exit)) ⌝ }
@@ -142,8 +142,8 @@ pub fn run(mut c: Controller, trace: &[u8], place: usize, most: usize, out: &mut
                 };
             }
             Call::Bio(bio) => {
-                // On the usual path a row changes where it stands, and a queue that the bio joins; where shares change,
-                // the state is handed through.
+                // Usually only a row changes, and the queue that the bio joins, both where they stand. Where shares change,
+                // the state is handed through `submit`.
                 let node = submit::place_of(bio);
                 let model = c.model;
                 let share = c.shares[node];
@@ -178,8 +178,8 @@ pub fn run(mut c: Controller, trace: &[u8], place: usize, most: usize, out: &mut
                 count += lines::put_answer(answer, bio.id, &mut out[count..]);
             }
             Call::Tick(time) => {
-                // The leaves' turns change the state where it stands, as in `tick`. All that can wait has a place here, so
-                // that the clock alone refuses.
+                // The leaves' turns change the state where it stands, as in `tick`. There is a place here for each bio
+                // that can wait, so only the clock can refuse.
                 let mut ids = [0u32; WAITING_MOST];
                 let clock = c.clock;
                 let verdict = clock::verdict(clock, time);
@@ -219,7 +219,7 @@ pub fn run(mut c: Controller, trace: &[u8], place: usize, most: usize, out: &mut
                 count += put_ticked(answer, &ids, &mut out[count..]);
             }
             Call::Plan => {
-                // What a plan leaves is put in where the state stands.
+                // What a plan changes is put into the state where it stands.
                 let clock = c.clock;
                 let mut answer = Verdict::Refused(Refusal::NothingPassed);
                 if plan::is_due(clock) {

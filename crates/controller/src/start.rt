@@ -79,7 +79,7 @@ fn in_range(v: u16) -> bool
     (1 <= v) & (v <= VRATE_MOST)
 }
 
-// "vrate is set ..": refusal 15, or it holds for later ticks.
+// "vrate is set ..": refusal 15, or the new vrate holds for later ticks.
 pub fn vrate(mut c: Controller, v: u16) -> Outcome
     ensures { λ r. ⌜ r ≡ vratedOf v c ⌝ }
     ensures number { λ r. ⌜ verdictNumber (r .answer) ≡ due (vrateChecks v) ⌝ }

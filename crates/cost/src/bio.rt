@@ -56,7 +56,7 @@ pub fn is_forced(bio: Bio) -> bool
     bio.flags / 2 % 2 == 1
 }
 
-// "on either side": by the difference, which no sector or end is too large for.
+// "on either side": by the difference of the two, for which no sector or end is too large.
 fn is_near(sector: u64, end: u64) -> bool
     ensures { λ r. ⌜ r ≡ isNear sector end ⌝ }
 {

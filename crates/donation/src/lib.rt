@@ -1,5 +1,5 @@
 // Step 4 of a plan, on plain numbers: who takes, what the members of a set have together, and each leaf's share once
-// donors keep no more than their targets. Who is active and who donates is the caller's to say; nothing here knows of rows.
+// donors keep no more than their targets. The caller says who is active and who donates; nothing here knows of rows.
 ghost use mathlib.Core.Path.{_≡_};
 ghost use mathlib.Core.Bool.{true, false, cond};
 ghost use Prim.Native.Nat.{_*_, _^_, _≤_, _<_};
@@ -95,7 +95,7 @@ fn floors<'a>(
     shares
 }
 
-// "Else with S ..": a quotient for each taker is worked out once, and "what remains .." is what they leave of S - T.
+// "Else with S ..": a quotient for each taker is worked out once, and "what remains .." is what these leave of S - T.
 pub fn donated<'a>(
     active: u64,
     donors: u64,

@@ -38,7 +38,7 @@ fn rested(stay: bool, row: Row) -> Row
     }
 }
 
-// The row when the plan is over, but for its budget's share.
+// The row when the plan is over, except that its budget does not yet follow the new share.
 pub fn plan_row(quiet: bool, stay: bool, row: Row) -> Row
     ensures { λ r. ⌜ r ≡ restarted (restedOf stay (forgivenOf quiet row)) ⌝ }
 {

@@ -14,10 +14,11 @@ use rules::budget::Row;
 use rules::units::Abs;
 use rules::units::Virt;
 
-// The most that a leaf saves which owes nothing and waits for nothing.
+// The most that a leaf saves if it owes nothing and has no waiter.
 const IDLE_CAP: u64 = 134217728;
 
-// A leaf before anything is released: what it repaid, and whether bios that wait are due. With none due, its turn is over.
+// A leaf before anything is released: its row, what it repaid, and whether bios that wait are due. With none due, its turn
+// is over.
 pub struct Settled {
     pub row: Row,
     pub repaid: Abs,
@@ -122,7 +123,7 @@ fn is_due(row: Row, waiting: u8) -> bool
     if row::owes(row) { false } else { 0 < waiting }
 }
 
-// "Then for each active leaf, ..", as far as its row goes: the queue of a leaf with nothing due is not looked at.
+// "Then for each active leaf, ..", as far as it concerns the row: the queue of a leaf with nothing due is not looked at.
 pub fn settle(gain: Virt, share: u64, row: Row, waiting: u8) -> Settled
     requires { ⌜ FitRow share row × (gain .0 ≤ gainMost) ⌝ }
     ensures { λ r. ⌜ r ≡ settledOf gain share row waiting ⌝ }
@@ -137,7 +138,7 @@ pub fn settle(gain: Virt, share: u64, row: Row, waiting: u8) -> Settled
     }
 }
 
-// The rest of its turn, where bios are due.
+// The rest of a leaf's turn, where bios are due.
 pub fn released(share: u64, row: Row, queue: Queue, out: &mut [u32]) -> Left
     requires { ⌜ CanRelease share row queue × (queue .len ≤ length (now out)) ⌝ }
     ensures { λ r. ⌜ Releases (andCapped (releaseIn (queue .len) share row queue)) (now (out .entry)) r (now (out .exit)) ⌝ }

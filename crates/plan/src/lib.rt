@@ -58,7 +58,7 @@ fn is_quiet(usage: Abs, since: Virt) -> bool
     2 * used.0 < since.0
 }
 
-// A set built node by node: of those passed, the ones that were inside.
+// A set built node by node: node n is added if it is inside.
 fn grown(set: u64, n: usize, inside: bool) -> u64
     requires { ⌜ n < 64 ⌝ }
     ensures { λ r. ⌜ Grows set n inside r ⌝ }
@@ -187,8 +187,8 @@ pub struct Planned {
     pub rows: [Row; 64],
 }
 
-// A plan that is not refused. It hands out what changes, and its caller puts that into a state of its own: a step that took
-// the whole state would copy it.
+// A plan that is not refused. It answers what changes, and its caller puts this into the state that it holds. The steps
+// take parts of the state: a step that took the whole state would copy it.
 pub fn parts(c: Controller) -> Planned
     requires { ⌜ Sound c × (0 < c .clock .since .0) ⌝ }
     ensures { λ r. ⌜ putPlan r c ≡ planOf c ⌝ }

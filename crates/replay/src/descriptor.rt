@@ -1,16 +1,16 @@
-// Bytes to and from a descriptor. A call that a signal broke off, or that came before a descriptor that does not wait was
-// ready, moved nothing and is made again, so that no byte is lost to a slow reader. Any other failure is for the caller to
-// say, and errno tells which.
+// Bytes to and from a descriptor. A call moves nothing where a signal breaks it off, or where the descriptor does not wait
+// and is not ready yet. It is then made again, so that no byte is lost to a slow reader. Any other failure is for the caller
+// to say, and errno tells which it was.
 ghost use Prim.Native.Nat.{_≤_};
 ghost use lib.ListN.{length};
 use libc::EAGAIN;
 use libc::EINTR;
 
 // A proved loop has to end, and nothing says that a call succeeds at last or that a trace ends. So such a loop counts its
-// rounds down, from a number that no run uses up.
+// rounds down, from a number that is never used up.
 pub(crate) const TRIES: u64 = u64::MAX;
 
-// Is the call that answered so just now worth making again?
+// Is the call that just gave this answer worth making again?
 fn again(answer: isize) -> bool {
     if answer >= 0 {
         return false;
@@ -23,7 +23,7 @@ fn again(answer: isize) -> bool {
     error == EINTR
 }
 
-// What a read brought, which is nothing at the end and where it failed.
+// What a read brought: nothing at the end of the input, and nothing where it failed.
 pub(crate) struct Got {
     pub count: usize,
     pub failed: bool,
@@ -57,8 +57,8 @@ fn write_some(fd: i32, buf: &[u8]) -> usize
     io::count(put, buf)
 }
 
-// How many of the first bytes were taken: all of them, or fewer where a write failed. Each write is of what follows the
-// bytes that those before it took.
+// How many of the first bytes were taken: all of them, or fewer where a write failed. Each write begins behind
+// the bytes that were taken before it.
 pub(crate) fn write(fd: i32, buf: &[u8]) -> usize
     ensures { λ r. ⌜ r ≤ length (now (buf .entry)) ⌝ }
 {

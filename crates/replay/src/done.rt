@@ -1,5 +1,5 @@
-// The mark of a run that ended well. The language gives a program no exit status. So a caller that wants one asks for a mark by
-// the first argument, and takes a run without a mark for one that failed.
+// The mark of a run that ended well. The language gives a program no exit status. So a caller that wants one asks for a
+// mark by the first argument, and takes a run without a mark for one that failed.
 ghost use Rattle.replay.specs.Rounds.{Well};
 use crate::descriptor::write;
 use crate::rounds::End;
@@ -27,7 +27,7 @@ pub(crate) fn is_asked() -> bool {
     same(&word[..length], b"--report")
 }
 
-// Only of a run that ended well.
+// Writes the mark, for a run that ended well and no other.
 pub(crate) fn tell(end: End)
     requires { ⌜ Well end ⌝ }
 {

@@ -1,12 +1,11 @@
 // The loop: bytes come in and lines go out, round by round, in two buffers of a fixed size, however long the trace is. All
 // lines are written before the next read, which may wait.
 //
-// Proved is each round (`specs/Rounds`): what it replays, which lines then stand at the front of the line buffer, that it goes on
-// only where its writes took as many bytes as these lines have, what waits after it, and that a run ends well only where the
-// replay is over. No contract can say which bytes a write takes or a read brings. So four things are for a person to read:
-// that `round` hands `write` the front of the line buffer, that `descriptor::write` and `read` hand the system what they are
-// lent, that `replay_from` begins at the beginning and goes from round to round, and that the end of its last round is what the
-// caller is told.
+// What is proved of each round (`specs/Rounds`): what it replays, which lines then stand at the front of the line buffer,
+// that the loop goes on only where its writes took as many bytes as these lines have, what waits after it, and that a run
+// ends well only where the replay is over. No contract can say which bytes a write takes or a read brings. So three things
+// are for a person to read: that `round` hands `write` the front of the line buffer, that `descriptor::write` and `read`
+// hand the system what they are lent, and that `replay_from` begins at the beginning and goes from round to round.
 ghost use mathlib.Core.Path.{_≡_};
 ghost use mathlib.Core.Bool.{true};
 ghost use Prim.Native.Nat.{_≤_};
@@ -63,7 +62,7 @@ fn wide(n: usize) -> u64 {
     n as u64
 }
 
-// How many bytes were read, with those that came now. A person at a terminal is shown it.
+// How many bytes were read so far, with those that came now. This is shown to a person at a terminal.
 fn total_with(total: u64, count: usize, watched: bool) -> u64 {
     let total = std::num::wrapping_add_u64(total, wide(count));
     if watched {
@@ -72,7 +71,7 @@ fn total_with(total: u64, count: usize, watched: bool) -> u64 {
     total
 }
 
-// One read, to behind the bytes that wait.
+// One read, whose bytes go behind those that wait.
 fn more(s: Standing, fd: i32, watched: bool, chunk: &mut [u8]) -> Standing
     requires { ⌜ Stands s (length (now chunk)) ⌝ }
     ensures { λ r. ⌜ Onward Pause.Bytes s (now (chunk .entry)) r (now (chunk .exit)) ⌝ }
@@ -112,7 +111,7 @@ fn cleared(count: usize, total: u64, watched: bool) {
     }
 }
 
-// The bytes that wait, as far as they go.
+// Replays the bytes that wait, as far as they go.
 fn replayed(s: Standing, chunk: &[u8], out: &mut [u8]) -> Fed
     requires { ⌜ Stands s (length (now chunk)) ⌝ }
     ensures { λ f. ⌜ Replayed s (now (chunk .entry)) (now (out .entry)) (now (out .exit)) f ⌝ }
@@ -122,7 +121,7 @@ fn replayed(s: Standing, chunk: &[u8], out: &mut [u8]) -> Fed
     feed(replay, &chunk[..filled], 0, s.last, out)
 }
 
-// What they leave goes to the buffer's front.
+// What is left of these bytes goes to the buffer's front.
 fn left_over(fed: Fed, put: usize, s: Standing, chunk: &mut [u8]) -> Standing
     requires { ⌜ Playing (fed .replay) × (fed .place ≤ s .filled) × (s .filled ≤ length (now chunk)) ⌝ }
     ensures { λ r. ⌜ LeftOver fed put s (now (chunk .entry)) r (now (chunk .exit)) ⌝ }
@@ -156,7 +155,14 @@ fn round(s: Standing, fd: i32, watched: bool, chunk: &mut [u8], out: &mut [u8]) 
     onward(pause, after, fd, watched, chunk)
 }
 
-// Where the rounds are used up, what the run did not come to is unread.
+// How a run that could not read ends.
+pub(crate) fn unread() -> End
+    ensures { λ r. ⌜ Finished r ⌝ }
+{
+    End::Unread
+}
+
+// How the run ended. Where it could still go on, the rest of its trace is unread.
 fn ending(s: Standing) -> End
     ensures { λ r. ⌜ r ≡ endingOf s ⌝ }
 {

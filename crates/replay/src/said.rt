@@ -17,7 +17,7 @@ fn say(text: &[u8]) {
     write(STDERR_FILENO, text);
 }
 
-// The end of such a line: what to do, where that is known, and why the last call failed.
+// The end of a line about what cannot be read: what to do, where that is known, and why the last call failed.
 fn unread() {
     match os::errno() {
         ENOENT | ENOTDIR | EISDIR | ENAMETOOLONG | ELOOP | EBADF => os::fail(
@@ -74,7 +74,7 @@ pub(crate) fn file_unread(path: &mut [u8]) {
     unread();
 }
 
-// Without a file it waits at a terminal in silence, unless it says so.
+// Without a file the program waits at a terminal, and says so, since nobody could tell otherwise.
 pub(crate) fn waits() {
     say(
         b"replay: waits for a trace on standard input: name a file to replay that one, or end the input by Ctrl-D\n",
@@ -99,7 +99,8 @@ pub(crate) fn progress(total: u64) {
     say(b" MB read");
 }
 
-// Where nothing may be left: before the lines go on, since a write to a pipe that nobody reads any more ends the program.
+// Clears the progress. This comes before lines are written, since a write to a pipe that nobody reads any more ends the
+// program, and no progress may be left then.
 pub(crate) fn no_progress(total: u64) {
     if total < MEGABYTE {
         return;

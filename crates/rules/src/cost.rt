@@ -11,7 +11,7 @@ pub struct Rates {
     pub wrandiops: u64,
 }
 
-// What one direction costs: each page, and once a bio by where it lies.
+// What one direction costs: each page, and once for each bio a base, by where the bio lies.
 pub struct Price {
     pub page: Abs,
     pub sequential: Abs,
@@ -23,7 +23,7 @@ pub struct Model {
     pub write: Price,
 }
 
-// One request, with every value that its widths can hold.
+// One request. Each of its numbers may be any that its width can hold.
 pub struct Bio {
     pub node: u8,
     pub flags: u8,

@@ -45,7 +45,7 @@ pub struct Fed {
     pub replay: Replay,
 }
 
-// What a call sets that does nothing else.
+// What is set by a call that does nothing else.
 pub struct Setting {
     pub vrate: u16,
 }

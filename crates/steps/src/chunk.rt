@@ -109,7 +109,7 @@ fn pause_of(last: bool, read: Read, phase: Phase) -> Pause
     Pause::Room
 }
 
-// For as long as the next record is whole and any record's lines have room: calls by the run, other records one a turn.
+// For as long as the next record is whole and any record's lines have room: calls go by the run, other records one by one.
 pub fn feed(mut s: Replay, trace: &[u8], place: usize, last: bool, out: &mut [u8]) -> Fed
     requires { ⌜ Playing s ⌝ }
     ensures { λ r. ⌜ Feeds last (now (trace .entry)) place s r (now (out .entry)) (now (out .exit)) ⌝ }

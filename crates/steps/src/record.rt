@@ -21,7 +21,7 @@ use rules::replay::Stepped;
 use rules::trace::Read;
 use rules::trace::Record;
 
-// How many bytes were written, and the replay after it.
+// What a step did: how many bytes it wrote, and the replay after it.
 pub(crate) struct StepDone {
     pub count: usize,
     pub replay: Replay,

@@ -1,7 +1,7 @@
 // Submitting a bio: refusals 4 to 8 in their order, an inactive leaf's activation, the answer, and what it does to the
 // leaf and to a donation. What happens inside one row and one queue is the crate leaf's. No node but the bio's is touched
-// unless shares change. `decide` says it all by what it is shown of one leaf, so that it stands once: who holds the state,
-// `submit` here or a run of calls, carries it out where the state stands.
+// unless shares change. `decide` says all of this from what it is shown of one leaf, so these rules stand once in code. The
+// caller that holds the state, which is `submit` here or a run of calls, carries the decision out where the state stands.
 ghost use mathlib.Core.Path.{_≡_};
 ghost use Prim.Native.Nat.{_≤_, _<_};
 ghost use Rattle.rules.specs.Numbers.{costMost, debtMost, nodesMost, queueRoom};
@@ -35,7 +35,7 @@ fn wide(x: u32) -> u64
     x as u64
 }
 
-// Where the books of a bio's node stand. A bio may name a node that no tree has: the root stands for it, which is no leaf.
+// Where the books of a bio's node stand. A bio may name a node that no tree has: the root, which is no leaf, stands for it.
 pub fn place_of(bio: Bio) -> usize
     ensures { λ r. ⌜ r ≡ placeOf bio ⌝ }
 {

@@ -33,7 +33,7 @@ pub fn growth(clock: Clock, time: u64) -> Virt
     Virt(grown)
 }
 
-// The clock at the new time, of which the growth is known.
+// The clock at the new time, by a growth that is known.
 pub fn advanced(time: u64, mut clock: Clock, grown: Virt) -> Clock
     requires { ⌜ Near time clock × (grown ≡ growthOf clock time) ⌝ }
     ensures { λ r. ⌜ r ≡ advancedOf time clock ⌝ }

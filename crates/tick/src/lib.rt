@@ -1,6 +1,6 @@
-// The tick: what document 01 does when a new time comes. The clock alone decides refusals 9 to 12 and grows; the queues
-// decide 13. Then each active leaf has its turn, which is the crate leaf's, and writes its released ids behind those of
-// the leaves before it, into the rest of the lent buffer.
+// The tick: what document 01 does when a new time comes. The clock alone decides refusals 9 to 12 and the growth; the
+// queues decide 13. Then each active leaf has its turn, which is the crate leaf's, and writes its released ids behind those
+// of the leaves before it, into the rest of the lent buffer.
 ghost use mathlib.Core.Path.{_≡_};
 ghost use mathlib.Core.List.{[], _∷_};
 ghost use lib.ListN.{length};

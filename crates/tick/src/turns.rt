@@ -20,8 +20,8 @@ fn wide(x: u32) -> u64
     x as u64
 }
 
-// "Then for each active ..": its turn, with the buffer lent from `at` on. `at` is how many ids stand
-// before it, and at the end the answer.
+// "Then for each active ..": its turn, with the buffer lent from `at` on. `at` is how many ids were written so far, and at
+// the end it is the answer.
 pub(crate) fn accepted(mut c: Controller, time: u64, out: &mut [u32]) -> Ticked
     requires { ⌜ Sound c × TickPasses time (length (now out)) c ⌝ }
     ensures { λ r. ⌜ (r ≡ tickedBy Accepted time c) × (now (out .exit) ≡ lentBy Accepted time (now (out .entry)) c) ⌝ }

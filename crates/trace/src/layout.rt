@@ -6,7 +6,7 @@ ghost use Rattle.rules.specs.Trace.{isKind, layout, total, kindOf};
 
 const LAST_KIND: u8 = 7;
 
-// Where a body begins behind its kind, and where in a body each field but the first.
+// Where a body begins behind its kind, and where in a body each field but the first begins.
 pub(crate) const BODY: usize = 1;
 
 pub(crate) const NODE_WEIGHT: usize = 1;

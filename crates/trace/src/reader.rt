@@ -1,5 +1,5 @@
-// The reader: a trace and a place in it, kept together; thin over the decoder. Whoever holds no reader, as the replay,
-// reads through one by `read_from`, which takes a plain slice and a place.
+// The reader: a trace and a place in it, kept together; thin over the decoder. A caller that holds no reader, such as
+// the replay, reads by `read_from`: it takes a plain slice and a place, and makes a reader of them.
 use crate::decoder;
 use rules::trace::Read;
 ghost use mathlib.Core.Path.{_≡_};

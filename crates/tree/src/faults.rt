@@ -39,7 +39,7 @@ fn weight_in_range(weight: u16) -> bool
     weight <= WEIGHT_MOST
 }
 
-// The parent is judged first: only below a smaller one has a node a level.
+// The parent is judged first: a node has a level only where its parent's number is smaller.
 fn node_fault<'a>(parents: &'a [u8; 64], weights: &'a [u16; 64], node: usize) -> Fault
     requires { ⌜ Climbs (now parents) (node - 1) × (0 < node) × (node < 64) ⌝ }
     ensures { λ r. ⌜ FaultBy (now (parents .entry)) (now (weights .entry)) node r ⌝ }
