@@ -1,9 +1,9 @@
 #!/usr/bin/env bash
-# The documents against the files: every must-fail edit that the map (docs/proof-map.md, theorems.md and guards.md) or
-# docs/entries.md names is there, every edit that is there is named in the map or in a table of edits, and every path that
-# README.md or docs/*.md names is there. An edit is named as `crate/name`, or by its bare name in a table that says its crate:
-# those of docs/guards.md, and the last column of the entries. So is every theorem that they name. And the second program's
-# folders are those of its table, in its order. The last line is 'N passed, M failed'.
+# The documents against the files. Every must-fail edit that the map (docs/proof-map.md, theorems.md and guards.md) or
+# docs/entries.md names is there, and every edit that is there is named in the map or in a table of edits. An edit is named
+# as `crate/name`, or by its bare name in a table that says its crate: those of docs/guards.md, and the last column of the
+# entries. Every path and every theorem that README.md or docs/*.md names is there. And the second program's folders are
+# those of its table, in its order. The last line is 'N passed, M failed'.
 set -uo pipefail
 export LC_ALL=C
 cd "$(dirname "$0")/.." || exit 1
@@ -73,7 +73,7 @@ done <"$work/rows.entries"
 for table in "$work/rows" "$work/rows.it" "$work/rows.entries"; do is "a table of edits has no row" [ -s "$table" ]; done
 is "$(cat "$work/faults" 2>&1)" [ ! -e "$work/faults" ]
 
-# ---- those that are named by crate and name, anywhere in the two
+# ---- those that are named by crate and name, anywhere in the map or in the entries
 crates=$(for crate in crates/*/; do basename "$crate"; done | paste -sd '|')
 cat "${map[@]}" docs/entries.md | quoted | grep -E "^($crates)/[a-z0-9_]+$" | sort -u >"$work/written"
 cat "${map[@]}" | quoted | grep -E "^($crates)/[a-z0-9_]+$" | cat - "$work/tables" | sort -u >"$work/named"

@@ -1,6 +1,6 @@
 #!/usr/bin/env bash
-# The README's own examples: each block of shell is run at the root of the repository and must print the block of text behind it.
-# The one block without such a text is the gate's own line, which is what runs this. There is no other kind of block.
+# The README's own examples: each block of shell is run at the root of the repository and must print the block of text behind
+# it. The one block without such a text is .ci/run, the gate, which runs this script. There is no other kind of block.
 # The last line is 'N passed, M failed'.
 set -uo pipefail
 cd "$(dirname "$0")/.." || exit 1

@@ -1,6 +1,7 @@
 #!/usr/bin/env bash
 # The program's manners: tests/replay.sh BINARY [SECOND]. Traces in pieces, cut, changed and long, readers that are slow or
-# gone, calls that fail, and what it says then; and those of ./replay, which runs it: options, exit status, signals, the build.
+# gone, calls that fail, and what it says then; and the manners of the script ./replay: options, exit status, signals, the
+# build.
 # Where BINARY is ./replay, its program is taken. With SECOND, the second program, what it prints is compared as well.
 # The last line is 'N passed, M failed'.
 set -uo pipefail
@@ -49,7 +50,7 @@ clone() {
     : >"$1/crates/a/src/lib.rt"
 }
 
-# One in which the program is built, and the words that run it alone.
+# A folder in which the program is built, and the words that run the program without the script.
 clone home
 mkdir -p home/target/bin home/target/stamp
 cp "$binary" home/target/bin/replay || exit 1
@@ -258,7 +259,7 @@ slowly() { sleep 1; while IFS= read -r line; do printf '%s\n' "$line"; done; }
 timeout "$limit" "${tested[@]}" many 2>err | slowly >out
 status=${PIPESTATUS[0]}
 is "a slow reader gets every line" wrote many.lines
-# where the system ends no program for it, a write to nobody is one that fails
+# a write to nobody ends the program, or, where the system does not do that, fails
 timeout "$limit" "${tested[@]}" long 2>err | head -n 1 >out
 is "a reader that leaves after a line" [ "$(cat out)" = "D 0" ]
 is "it ends quietly, or says so" [ "$(cat err)" = "" -o "$(cat err)" = "$full: Broken pipe" ]
@@ -401,7 +402,8 @@ is "./replay: a reader that is gone, where that ends no program" [ "$(cat ended)
 "$wrapper" long 2>err | head -n 1 >out
 status=${PIPESTATUS[0]}
 yes | head -n 1 >yes.out
-if [ "${PIPESTATUS[0]}" -eq 141 ]; then ends=(141); else ends=(1 141); fi # where the system ends no program for it, the write fails
+ends=(1 141) # where the system does not end a program for it, the write fails
+[ "${PIPESTATUS[0]}" -ne 141 ] || ends=(141)
 is "./replay: a reader that leaves ends it as any program" grep -qxF "$status" <(printf '%s\n' "${ends[@]}")
 is "./replay: and it had its line" [ "$(cat out)" = "D 0" ]
 "$wrapper" many 2>err | slowly >out
@@ -433,7 +435,7 @@ is "./replay: by a link" wrote whole.lines
 status=$?
 is "./replay: by a link to a link on PATH" wrote whole.lines
 
-# ---- ./replay: signals. What it writes to ends when nobody holds it any more.
+# ---- ./replay: signals. The pipe that it writes to ends when no process holds it any more.
 mkfifo fed given
 for signal in TERM HUP; do
     : >out
@@ -454,8 +456,8 @@ for signal in TERM HUP; do
     exec 4>&-
 done
 
-# ---- ./replay: the build, by an rt that proves nothing. As the true one it starts what does not hear Ctrl-C, leaves what it
-# has made so far where it is ended, and writes a stamp at last.
+# ---- ./replay: the build, by an rt that proves nothing. Like the true one, it starts a process that does
+# not hear Ctrl-C, leaves behind what it has made so far when it is ended, and writes a stamp last.
 mkdir false
 cat >false/rt <<'END'
 #!/bin/sh
