@@ -1,5 +1,5 @@
-// The weight tree: what is wrong with it, which nodes are its leaves and which are active, and the base shares.
-// A tree comes in by value; the work is done on its arrays, which are lent, so that no call copies them.
+// The weight tree: what is wrong with it, which nodes are its leaves and which are active, and the base share of each
+// active leaf. A tree comes in by value; the work is done on its arrays, which are lent, so that no call copies them.
 ghost use mathlib.Core.Path.{_≡_};
 ghost use Prim.Native.Nat.{_<_};
 ghost use Rattle.rules.specs.Refusals.{verdictNumber, due, treeChecks};
