@@ -99,7 +99,7 @@ pub(crate) fn progress(total: u64) {
     say(b" MB read");
 }
 
-// Clears the progress. This comes before lines are written, since a write to a pipe that nobody reads any more ends the
+// Clears the progress, at the end and before lines are written: a write to a pipe that nobody reads any more ends the
 // program, and no progress may be left then.
 pub(crate) fn no_progress(total: u64) {
     if total < MEGABYTE {
