@@ -23,6 +23,10 @@ const LONGEST: u64 = 10_000_000;
 /// than that, so that a program which holds all of it is found out.
 const MORE_MEMORY: u64 = 8 * 1024;
 
+/// What a program needs may vary from run to run, under an emulator by some
+/// MiB: memory is enough if it is so as often as this.
+const TRIES: usize = 8;
+
 /// How a trace is damaged, and its length.
 #[derive(Clone, Copy, Debug)]
 enum Damage {
@@ -206,8 +210,13 @@ fn hold_memory(pair: &Pair) -> io::Result<Result<Pair, String>> {
 fn least_memory(program: &Program, watch: &Watch) -> io::Result<Option<u64>> {
     let empty = watch.put(&[])?;
     let takes = |memory: u64| -> io::Result<bool> {
-        let ran = watch.run(&program.within(memory), &empty, Feed::Named)?;
-        Ok(ran.fault.is_none())
+        for _ in 0..TRIES {
+            let ran = watch.run(&program.within(memory), &empty, Feed::Named)?;
+            if ran.fault.is_some() {
+                return Ok(false);
+            }
+        }
+        Ok(true)
     };
     let mut enough = 1_024;
     while !takes(enough)? {
