@@ -402,8 +402,7 @@ is "./replay: a reader that is gone, where that ends no program" [ "$(cat ended)
 "$wrapper" long 2>err | head -n 1 >out
 status=${PIPESTATUS[0]}
 yes | head -n 1 >yes.out
-ends=(1 141) # where the system does not end a program for it, the write fails
-[ "${PIPESTATUS[0]}" -ne 141 ] || ends=(141)
+if [ "${PIPESTATUS[0]}" -eq 141 ]; then ends=(141); else ends=(1 141); fi # where the system ends no program for it, the write fails
 is "./replay: a reader that leaves ends it as any program" grep -qxF "$status" <(printf '%s\n' "${ends[@]}")
 is "./replay: and it had its line" [ "$(cat out)" = "D 0" ]
 "$wrapper" many 2>err | slowly >out

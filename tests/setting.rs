@@ -2,6 +2,8 @@
 //! one ends it.
 //! `setting nonblocking CMD..`: its standard input and output do not wait.
 //! `setting watched CMD..`: its standard error is a terminal, and what it writes there goes to standard error.
+//! `setting shown CMD..`: its standard output is that terminal too.
+//! `setting typed CMD..`: its standard input is a terminal, on which the end is typed.
 //! `setting typing TEXT KEYS CMD..`: it runs on a terminal of its own, which is its standard input and error. The keys are typed
 //! once the text is seen there, and what was seen goes to standard error when nothing that was started is on the terminal.
 use std::fs::File;
@@ -85,9 +87,19 @@ fn main() {
             do_not_wait(1);
             command(&words[1..]).status().unwrap()
         }
-        "watched" => {
+        "typed" => {
+            let (mut manager, other) = terminal();
+            manager.write_all(b"\x04").unwrap();
+            command(&words[1..]).stdin(Stdio::from(other)).status().unwrap()
+        }
+        "watched" | "shown" => {
             let (manager, other) = terminal();
-            let child = command(&words[1..]).stderr(Stdio::from(other)).spawn().unwrap();
+            let mut command = command(&words[1..]);
+            if words[0] == "shown" {
+                command.stdout(Stdio::from(other.try_clone().unwrap()));
+            }
+            let child = command.stderr(Stdio::from(other)).spawn().unwrap();
+            drop(command);
             closed(child, manager, "never seen", "")
         }
         "typing" => {

@@ -22,9 +22,12 @@ use rules::replay::Ran;
 use rules::replay::Setting;
 use rules::trace::Read;
 use rules::trace::Record;
+use sets::lowest;
+use sets::remove;
 use submit::Queueing;
 use submit::Shares;
 use submit::View;
+use tick::clock;
 
 const WAITING_MOST: usize = 504;
 

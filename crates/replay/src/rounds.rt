@@ -3,9 +3,10 @@
 //
 // What is proved of each round (`specs/Rounds`): what it replays, which lines then stand at the front of the line buffer,
 // that the loop goes on only where its writes took as many bytes as these lines have, what waits after it, and that a run
-// ends well only where the replay is over. No contract can say which bytes a write takes or a read brings. So three things
+// ends well only where the replay is over. No contract can say which bytes a write takes or a read brings. So four things
 // are for a person to read: that `round` hands `write` the front of the line buffer, that `descriptor::write` and `read`
-// hand the system what they are lent, and that `replay_from` begins at the beginning and goes from round to round.
+// hand the system what they are lent, that `replay_from` begins at the beginning and goes from round to round, and that it
+// answers how its last round ended.
 ghost use mathlib.Core.Path.{_≡_};
 ghost use mathlib.Core.Bool.{true};
 ghost use Prim.Native.Nat.{_≤_};
@@ -153,13 +154,6 @@ fn round(s: Standing, fd: i32, watched: bool, chunk: &mut [u8], out: &mut [u8]) 
     }
     let pause = fed.pause;
     onward(pause, after, fd, watched, chunk)
-}
-
-// How a run that could not read ends.
-pub(crate) fn unread() -> End
-    ensures { λ r. ⌜ Finished r ⌝ }
-{
-    End::Unread
 }
 
 // How the run ended. Where it could still go on, the rest of its trace is unread.

@@ -238,7 +238,7 @@ by-verdict b c =
     (sym (answer-by-count (isForced b) (costIn c b) (shareAt c (b .node)) (rowAt c (b .node)) (queueAt c (b .node))))
 
 alike : (b : Bio) (c : Controller) (v : Verdict) → entered (b .node) c ≡ c → judgedBy v b c ≡ submittedBy v b c
-unfolding onLeafBy submittedBy submission wouldBe settled applied endsDonation queued
+unfolding onLeafBy submittedBy submission wouldBe settled applied queued
 alike b c Accepted t = rw (queued-is (answerIn c b) (costIn c b) (b .id) (queueAt c (b .node)), t)
 alike b c (Refused x) t = rw (set-getD (c .rows) (b .node) emptyRow, set-getD (c .queues) (b .node) emptyQueue)
 

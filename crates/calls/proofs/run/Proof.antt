@@ -1,8 +1,8 @@
 -- `calls::run` meets its contract: each turn of the loop is one call of the run, and its lines stand behind those before.
 -- Assumes nothing.
-use mathlib.Core.Path.{_≡_, ap, _∙_}
+use mathlib.Core.Path.{_≡_, refl, sym, ap, subst, _∙_}
 use mathlib.Core.Bool.{true}
-use mathlib.Core.List.{List}
+use mathlib.Core.List.{List, _++_}
 use mathlib.Core.Logic.{⊎-elim}
 use Prim.Native.Nat.{ℕ, _+_, _-_, _≤_, _<_}
 use native.Mathlib.Omega.{arith}
@@ -14,23 +14,30 @@ use denote.Ref.{now}
 use Rattle.rules.specs.Numbers.{lineRoom, nodesMost}
 use Rattle.rules.specs.Tick.{advanced, lentAfter, waitingAll}
 use Rattle.rules.specs.Refusals.{firstOf, tickChecks}
+use Rattle.rules.specs.Budget.{pushed}
 use Rattle.rules.specs.Entries.{submitted, ticked, lentOf, planned}
 use Rattle.rules.specs.Invariant.{Sound, TickPasses}
 use Rattle.rules.specs.Replay.{allRoom, answerLine, tickLines, verdictLines}
 use Rattle.rules.specs.Chunks.{isCall}
 use Rattle.rules.specs.Buffers.{Written, restOf, putBack}
 use Rattle.rules.specs.Laws.Buffers.{stands-left, stands-kept, stands-fits}
-use Rattle.rules.specs.Budget.{pushed}
-use Rattle.rules.specs.Entries.{submitted}
+use Rattle.rules.specs.Laws.Passes.{tick-passes}
+use Rattle.rules.specs.Laws.States.{waiting-small}
 use Rattle.rules.specs.declared.budget.Controller.{Controller}
 use Rattle.rules.specs.declared.budget.Outcome.{Outcome}
 use Rattle.rules.specs.declared.budget.Submitted.{Submitted}
+use Rattle.rules.specs.declared.budget.Ticked.{Ticked}
+use Rattle.rules.specs.declared.refusals.Verdict.the-variants.{Accepted}
 use Rattle.rules.specs.declared.replay.Call.{Call}
 use Rattle.sets.specs.Visit.{less-left}
 use Rattle.leaf.specs.Alone.{lengthOnly}
 use Rattle.leaf.specs.Fit.{gainMost}
 use Rattle.submit.specs.Decision.{viewAt, decision}
 use Rattle.submit.proofs.Decisions.{place-inside, queue-read, seen, can-decide, joining, as-it-was, can-join, stands}
+use Rattle.tick.proofs.Clocks.{grown-small}
+use Rattle.tick.proofs.Answers.{clock-refuses, enough-places, refuses, accepts}
+use Rattle.tick.proofs.Going.{Walking, same-walking, passing-is-near, begins, row-fits, rests, release-fits, count-fits, goes-on, ends as over}
+use Rattle.plan.proofs.Steps.{passed, refused, put-in, accepted}
 use Rattle.calls.specs.Calls.{planLinesOf}
 use Rattle.calls.proofs.Answered.{Answered, can-print, bio-answered, tick-answered, plan-answered, set-answered}
 use Rattle.calls.proofs.Running.{Running, begun, goes, ends, asks, called, no-call, bio-is-call, tick-is-call, plan-is-call, set-is-call}
@@ -124,19 +131,19 @@ returns c =
 enum-known-call : tie.Need-enum-known-call Inv-loop2 μ-loop2 Inv-loop μ-loop
 enum-known-call c = search needs
 
-abbrev placed : tie.After-decide Inv-loop μ-loop → tie.After-place-of Inv-loop μ-loop
+abbrev placed : tie.After-decide Inv-loop2 μ-loop2 Inv-loop μ-loop → tie.After-place-of Inv-loop2 μ-loop2 Inv-loop μ-loop
 placed c = c .before .before .before .before .before
 
-abbrev bio-asked : tie.After-place-of Inv-loop μ-loop → tie.After-call Inv-loop μ-loop
+abbrev bio-asked : tie.After-place-of Inv-loop2 μ-loop2 Inv-loop μ-loop → tie.After-call Inv-loop2 μ-loop2 Inv-loop μ-loop
 bio-asked c = c .before .before
 
-abbrev bio-turn : tie.After-place-of Inv-loop μ-loop → Turn
+abbrev bio-turn : tie.After-place-of Inv-loop2 μ-loop2 Inv-loop μ-loop → Turn
 bio-turn c = bio-asked c .before .before
 
-small-at : (c : tie.After-place-of Inv-loop μ-loop) → c .place-of .result < nodesMost
+small-at : (c : tie.After-place-of Inv-loop2 μ-loop2 Inv-loop μ-loop) → c .place-of .result < nodesMost
 small-at c = rw (c .place-of .ensures) (place-inside (bio-asked c .call .given .0 .0))
 
-decided-at : (c : tie.After-decide Inv-loop μ-loop) → let p = placed c in let n = p .place-of .result in
+decided-at : (c : tie.After-decide Inv-loop2 μ-loop2 Inv-loop μ-loop) → let p = placed c in let n = p .place-of .result in
     c .decide .result ≡ decision (bio-asked p .call .given .0 .0) n (viewAt n (head (bio-turn p) .loop .c))
 decided-at c =
     let p = placed c in
@@ -144,7 +151,7 @@ decided-at c =
     ∙ ap (decision (bio-asked p .call .given .0 .0) (p .place-of .result)) (seen (head (bio-turn p) .loop .inv .sound) (small-at p))
 
 -- by each way the answer and the state are the submission's: the bio joins the queue, or the queue stays, or shares change
-is-submitted : (m : tie.At-match2-came Inv-loop μ-loop) → let p = placed (m .before) in
+is-submitted : (m : tie.At-match2-came Inv-loop2 μ-loop2 Inv-loop μ-loop) → let p = placed (m .before) in
     _≡_ {A = Submitted} (record { answer = m .match2 .answer; state = m .match2 .c }) (submitted (bio-asked p .call .given .0 .0) (head (bio-turn p) .loop .c))
 is-submitted m =
     let p = placed (m .before) in
@@ -167,80 +174,80 @@ is-submitted m =
     w)
     (m .match2 .came)
 
-place-of-requires : tie.Need-place-of-requires Inv-loop μ-loop
+place-of-requires : tie.Need-place-of-requires Inv-loop2 μ-loop2 Inv-loop μ-loop
 place-of-requires c κs = search needs
 
-mul-share : tie.Need-mul-share Inv-loop μ-loop
+mul-share : tie.Need-mul-share Inv-loop2 μ-loop2 Inv-loop μ-loop
 mul-share c = record { fits = omega (arith, small-at (c .before)) }
 
-element-copy-out-share : tie.Need-element-copy-out-share Inv-loop μ-loop
+element-copy-out-share : tie.Need-element-copy-out-share Inv-loop2 μ-loop2 Inv-loop μ-loop
 element-copy-out-share c = small-at (c .before)
 
-mul-row : tie.Need-mul-row Inv-loop μ-loop
+mul-row : tie.Need-mul-row Inv-loop2 μ-loop2 Inv-loop μ-loop
 mul-row c = record { fits = omega (arith, small-at (c .before .before)) }
 
-element-copy-out-row : tie.Need-element-copy-out-row Inv-loop μ-loop
+element-copy-out-row : tie.Need-element-copy-out-row Inv-loop2 μ-loop2 Inv-loop μ-loop
 element-copy-out-row c = small-at (c .before .before)
 
-mul-queue : tie.Need-mul-queue Inv-loop μ-loop
+mul-queue : tie.Need-mul-queue Inv-loop2 μ-loop2 Inv-loop μ-loop
 mul-queue c = record { fits = omega (arith, small-at (c .before .before .before)) }
 
-element-copy-out-queue : tie.Need-element-copy-out-queue Inv-loop μ-loop
+element-copy-out-queue : tie.Need-element-copy-out-queue Inv-loop2 μ-loop2 Inv-loop μ-loop
 element-copy-out-queue c = small-at (c .before .before .before)
 
-decide-requires : tie.Need-decide-requires Inv-loop μ-loop
+decide-requires : tie.Need-decide-requires Inv-loop2 μ-loop2 Inv-loop μ-loop
 decide-requires c κs =
     let p = c .before .before .before .before in
     let sound = head (bio-turn p) .loop .inv .sound in
     rw (seen sound (small-at p)) (can-decide sound (small-at p))
 
-enum-told-2 : tie.Need-enum-told-2 Inv-loop μ-loop
+enum-told-2 : tie.Need-enum-told-2 Inv-loop2 μ-loop2 Inv-loop μ-loop
 enum-told-2 c = search needs
 
-mul-next : tie.Need-mul-next Inv-loop μ-loop
+mul-next : tie.Need-mul-next Inv-loop2 μ-loop2 Inv-loop μ-loop
 mul-next c = record { fits = omega (arith, small-at (placed (c .before .before .before))) }
 
-element-set-from-next : tie.Need-element-set-from-next Inv-loop μ-loop
+element-set-from-next : tie.Need-element-set-from-next Inv-loop2 μ-loop2 Inv-loop μ-loop
 element-set-from-next c = small-at (placed (c .before .before .before))
 
-enum-known-queueing : tie.Need-enum-known-queueing Inv-loop μ-loop
+enum-known-queueing : tie.Need-enum-known-queueing Inv-loop2 μ-loop2 Inv-loop μ-loop
 enum-known-queueing c = search needs
 
-mul-queue-2 : tie.Need-mul-queue-2 Inv-loop μ-loop
+mul-queue-2 : tie.Need-mul-queue-2 Inv-loop2 μ-loop2 Inv-loop μ-loop
 mul-queue-2 c = record { fits = omega (arith, small-at (placed (c .before .before .before .before .before .before))) }
 
-element-copy-out-queue-2 : tie.Need-element-copy-out-queue-2 Inv-loop μ-loop
+element-copy-out-queue-2 : tie.Need-element-copy-out-queue-2 Inv-loop2 μ-loop2 Inv-loop μ-loop
 element-copy-out-queue-2 c = small-at (placed (c .before .before .before .before .before .before))
 
-joined-requires : tie.Need-joined-requires Inv-loop μ-loop
+joined-requires : tie.Need-joined-requires Inv-loop2 μ-loop2 Inv-loop μ-loop
 joined-requires c κs =
     let told = c .before .before in
     let d = told .before .before .before .before .before in
     let p = placed d in
     can-join (head (bio-turn p) .loop .inv .sound) _ (p .place-of .ensures) (decided-at d) (told .queueing .given .1)
 
-mul-longer : tie.Need-mul-longer Inv-loop μ-loop
+mul-longer : tie.Need-mul-longer Inv-loop2 μ-loop2 Inv-loop μ-loop
 mul-longer c = record { fits = omega (arith, small-at (placed (c .before .before .before .before .before .before .before .before))) }
 
-element-set-from-longer : tie.Need-element-set-from-longer Inv-loop μ-loop
+element-set-from-longer : tie.Need-element-set-from-longer Inv-loop2 μ-loop2 Inv-loop μ-loop
 element-set-from-longer c = small-at (placed (c .before .before .before .before .before .before .before .before))
 
-enum-told-3 : tie.Need-enum-told-3 Inv-loop μ-loop
+enum-told-3 : tie.Need-enum-told-3 Inv-loop2 μ-loop2 Inv-loop μ-loop
 enum-told-3 c = search needs
 
-submit-requires : tie.Need-submit-requires Inv-loop μ-loop
+submit-requires : tie.Need-submit-requires Inv-loop2 μ-loop2 Inv-loop μ-loop
 submit-requires c κs = head (bio-turn (placed (c .before))) .loop .inv .sound
 
-sub-put-answer : tie.Need-sub-put-answer Inv-loop μ-loop
+sub-put-answer : tie.Need-sub-put-answer Inv-loop2 μ-loop2 Inv-loop μ-loop
 sub-put-answer c = left-at (bio-turn (placed (c .before)))
 
-part-put-answer-start : tie.Need-part-put-answer-start Inv-loop μ-loop
+part-put-answer-start : tie.Need-part-put-answer-start Inv-loop2 μ-loop2 Inv-loop μ-loop
 part-put-answer-start c = left-at (bio-turn (placed (c .before)))
 
 part-put-answer-end : tie.Need-part-put-answer-end Inv-loop2 μ-loop2 Inv-loop μ-loop
 part-put-answer-end c = search needs
 
-put-answer-requires : tie.Need-put-answer-requires Inv-loop μ-loop
+put-answer-requires : tie.Need-put-answer-requires Inv-loop2 μ-loop2 Inv-loop μ-loop
 put-answer-requires c κs = room-at (bio-turn (placed (c .before .before))) 13 (omega arith)
 
 add-count : tie.Need-add-count Inv-loop2 μ-loop2 Inv-loop μ-loop
@@ -248,7 +255,7 @@ add-count c =
     let put = c .before .before in
     count-at (bio-turn (placed (put .before .before .before))) (answerLine _ _) (put .put-answer .ensures) (put .put-answer .kept .1 .1 .0)
 
-loop-less : tie.Need-loop-less Inv-loop μ-loop
+loop-less : tie.Need-loop-less Inv-loop2 μ-loop2 Inv-loop μ-loop
 loop-less c = less-at (bio-turn (placed (c .before .before .before .before .before)))
 
 loop-again : tie.Need-loop-again Inv-loop2 μ-loop2 Inv-loop μ-loop
@@ -273,20 +280,20 @@ abbrev judged-at : tie.After-growth Inv-loop2 μ-loop2 Inv-loop μ-loop → tie.
 judged-at g = g .before .before .before
 
 -- all that can wait has a place, so that a tick which the clock passes is accepted
-accepted-at : (c : tie.After-enum-told2 Inv-loop2 μ-loop2 Inv-loop μ-loop) → let v = c .before .before in
+accepted-at : (c : tie.After-enum-told4 Inv-loop2 μ-loop2 Inv-loop μ-loop) → let v = c .before .before in
     firstOf (tickChecks (tick-asked v .call2 .given .0 .0) (length allRoom) (head (tick-turn v) .loop .c)) ≡ Accepted
 accepted-at c =
     let v = c .before .before in
     let room : waitingAll (head (tick-turn v) .loop .c) ≤ 504 = waiting-small (head (tick-turn v) .loop .inv .sound) in
-    enough-places (tick-asked v .call2 .given .0 .0) (length allRoom) (head (tick-turn v) .loop .c) (v .verdict .ensures) (c .enum-told2 .given .1) refl room
+    enough-places (tick-asked v .call2 .given .0 .0) (length allRoom) (head (tick-turn v) .loop .c) (v .verdict .ensures) (c .enum-told4 .given .1) refl room
 
-passing : (c : tie.After-enum-told2 Inv-loop2 μ-loop2 Inv-loop μ-loop) → let v = c .before .before in
+passing : (c : tie.After-enum-told4 Inv-loop2 μ-loop2 Inv-loop μ-loop) → let v = c .before .before in
     TickPasses (tick-asked v .call2 .given .0 .0) (length allRoom) (head (tick-turn v) .loop .c)
 passing c = tick-passes _ _ _ (accepted-at c)
 
 -- by either way the answer, the state and the ids are the tick's
-is-ticked : (m : tie.At-match2-came Inv-loop2 μ-loop2 Inv-loop μ-loop) → let v = m .before in let time = tick-asked v .call2 .given .0 .0 in let d = head (tick-turn v) .loop .c in
-    (_≡_ {A = Ticked} (record { answer = m .match2 .answer; state = m .match2 .c }) (ticked time allRoom d)) × (m .match2 .ids ≡ lentOf time allRoom d)
+is-ticked : (m : tie.At-match4-came Inv-loop2 μ-loop2 Inv-loop μ-loop) → let v = m .before in let time = tick-asked v .call2 .given .0 .0 in let d = head (tick-turn v) .loop .c in
+    (_≡_ {A = Ticked} (record { answer = m .match4 .answer; state = m .match4 .c }) (ticked time allRoom d)) × (m .match4 .ids ≡ lentOf time allRoom d)
 is-ticked m =
     let v = m .before in
     let time = tick-asked v .call2 .given .0 .0 in
@@ -295,34 +302,17 @@ is-ticked m =
     ⊎-elim
     (λ w.
     rw (w .6, w .7, w .8)
-    (accepts time allRoom d (accepted-at (record { before = record { before = v; match2 = w .0 }; enum-told2 = w .1 }))
+    (accepts time allRoom d (accepted-at (record { before = record { before = v; match4 = w .0 }; enum-told4 = w .1 }))
     (over sound time (w .2 .ensures) (w .3 .inv) (omega (arith, w .4 .left))
     (w .5 .ensures ∙ ap (advanced time) (sym (ap (λ (k : Controller). k .clock) (w .3 .inv .going .rest)))))))
     (λ w.
     rw (w .3, w .4, w .5) (refuses time allRoom d (clock-refuses time (length allRoom) d (v .verdict .ensures) (w .1 .given .1))))
-    (m .match2 .came)
+    (m .match4 .came)
 
 verdict-requires : tie.Need-verdict-requires Inv-loop2 μ-loop2 Inv-loop μ-loop
 verdict-requires c κs = head (c .before .before .before .before) .loop .inv .sound .clock
 
-add-count-2 : tie.Need-add-count-2 Inv-loop μ-loop
-add-count-2 c =
-    let put = c .before .before in
-    count-at (put .before .before .before .before .before .before .before .before .before) (tickLines _ _) (put .put-ticked .ensures) (put .put-ticked .kept .1 .1 .0)
-
-loop-less-2 : tie.Need-loop-less-2 Inv-loop μ-loop
-loop-less-2 c = less-at (c .before .before .before .before .before .before .before .before .before .before .before .before)
-
-loop-again-2 : tie.Need-loop-again-2 Inv-loop μ-loop
-loop-again-2 c =
-    let put = c .before .before .before in
-    let done = put .before .before .before .before in
-    let asked = done .before .before .before in
-    again-at (asked .before .before) _ (asked .call2 .given .1) (tick-is-call _) _
-    (tick-answered _ _ _ _ (done .tick .ensures .0 .0) (done .tick .ensures .0 .1) (put .put-ticked .ensures)) (put .put-ticked .kept .1 .1 .0)
-
--- ---- a plan
-enum-told-4 : tie.Need-enum-told-4 Inv-loop μ-loop
+enum-told-4 : tie.Need-enum-told-4 Inv-loop2 μ-loop2 Inv-loop μ-loop
 enum-told-4 c = search needs
 
 growth-requires : tie.Need-growth-requires Inv-loop2 μ-loop2 Inv-loop μ-loop
@@ -338,8 +328,8 @@ walk-at n = n .before .before
 sound-at : (l : tie.At-loop2 Inv-loop2 μ-loop2 Inv-loop μ-loop) → Sound (head (tick-turn (judged-at (l .before))) .loop .c)
 sound-at l = head (tick-turn (judged-at (l .before))) .loop .inv .sound
 
-small-at : (l : tie.At-loop2 Inv-loop2 μ-loop2 Inv-loop μ-loop) → l .before .growth .result .0 ≤ gainMost
-small-at l = grown-small (passing-is-near (sound-at l) (passing (l .before .before))) (l .before .growth .ensures)
+gain-small : (l : tie.At-loop2 Inv-loop2 μ-loop2 Inv-loop μ-loop) → l .before .growth .result .0 ≤ gainMost
+gain-small l = grown-small (passing-is-near (sound-at l) (passing (l .before .before))) (l .before .growth .ensures)
 
 -- the buffer has 504 places, and what is lent of it and comes back is counted by that
 ids-long : (l : tie.At-loop2 Inv-loop2 μ-loop2 Inv-loop μ-loop) → length (l .loop2 .ids) ≡ 504
@@ -368,11 +358,11 @@ element-copy-out-wide c = c .lowest .ensures .node
 wide-requires : tie.Need-wide-requires Inv-loop2 μ-loop2 Inv-loop μ-loop
 wide-requires c κs = search needs
 
-mul-row : tie.Need-mul-row Inv-loop2 μ-loop2 Inv-loop μ-loop
-mul-row c = record { fits = omega (arith, c .before .before .lowest .ensures .node) }
+mul-row-2 : tie.Need-mul-row-2 Inv-loop2 μ-loop2 Inv-loop μ-loop
+mul-row-2 c = record { fits = omega (arith, c .before .before .lowest .ensures .node) }
 
-element-copy-out-row : tie.Need-element-copy-out-row Inv-loop2 μ-loop2 Inv-loop μ-loop
-element-copy-out-row c = c .before .before .lowest .ensures .node
+element-copy-out-row-2 : tie.Need-element-copy-out-row-2 Inv-loop2 μ-loop2 Inv-loop μ-loop
+element-copy-out-row-2 c = c .before .before .lowest .ensures .node
 
 mul-settle : tie.Need-mul-settle Inv-loop2 μ-loop2 Inv-loop μ-loop
 mul-settle c = record { fits = omega (arith, c .before .before .before .lowest .ensures .node) }
@@ -384,13 +374,13 @@ settle-requires : tie.Need-settle-requires Inv-loop2 μ-loop2 Inv-loop μ-loop
 settle-requires c κs =
     let node = c .before .before .before in
     let at = walk-at node in
-    row-fits (sound-at at) (at .before .growth .result) (at .loop2 .inv) (node .lowest .ensures) (c .before .wide .ensures) (small-at at)
+    row-fits (sound-at at) (at .before .growth .result) (at .loop2 .inv) (node .lowest .ensures) (c .before .wide .ensures) (gain-small at)
 
-mul-queue : tie.Need-mul-queue Inv-loop2 μ-loop2 Inv-loop μ-loop
-mul-queue c = record { fits = omega (arith, c .before .before .before .before .before .before .lowest .ensures .node) }
+mul-queue-3 : tie.Need-mul-queue-3 Inv-loop2 μ-loop2 Inv-loop μ-loop
+mul-queue-3 c = record { fits = omega (arith, c .before .before .before .before .before .before .lowest .ensures .node) }
 
-element-copy-out-queue : tie.Need-element-copy-out-queue Inv-loop2 μ-loop2 Inv-loop μ-loop
-element-copy-out-queue c = c .before .before .before .before .before .before .lowest .ensures .node
+element-copy-out-queue-3 : tie.Need-element-copy-out-queue-3 Inv-loop2 μ-loop2 Inv-loop μ-loop
+element-copy-out-queue-3 c = c .before .before .before .before .before .before .lowest .ensures .node
 
 mul-ids : tie.Need-mul-ids Inv-loop2 μ-loop2 Inv-loop μ-loop
 mul-ids c = record { fits = omega (arith, stands-at (walk-at (c .before .before .before .before .before .before .before))) }
@@ -416,8 +406,8 @@ released-requires c κs =
     (settled .settle .ensures) (test .if1 .taken) (passing (at .before .before) .room) (gain-small at) in
     (fits .0, subst (λ (xs : List ℕ). getD (at .loop2 .c .queues) (node .lowest .result) (lengthOnly 0) .len ≤ length xs) (rest-at at) (fits .1))
 
-mul-row-2 : tie.Need-mul-row-2 Inv-loop2 μ-loop2 Inv-loop μ-loop
-mul-row-2 c = record { fits = omega (arith, c .before .before .before .before .before .before .before .before .before .before .before .lowest .ensures .node) }
+mul-row-3 : tie.Need-mul-row-3 Inv-loop2 μ-loop2 Inv-loop μ-loop
+mul-row-3 c = record { fits = omega (arith, c .before .before .before .before .before .before .before .before .before .before .before .lowest .ensures .node) }
 
 element-set-from-row : tie.Need-element-set-from-row Inv-loop2 μ-loop2 Inv-loop μ-loop
 element-set-from-row c = c .before .before .before .before .before .before .before .before .before .before .before .lowest .ensures .node
@@ -448,8 +438,8 @@ add-done c =
     (released .released .ensures .0, released .released .ensures .1 ∙ ap (lentAfter _) (sym (rest-at at))) in
     record { fits = omega (arith, fits) }
 
-mul-row-3 : tie.Need-mul-row-3 Inv-loop2 μ-loop2 Inv-loop μ-loop
-mul-row-3 c = record { fits = omega (arith, c .before .before .before .before .before .before .lowest .ensures .node) }
+mul-row-4 : tie.Need-mul-row-4 Inv-loop2 μ-loop2 Inv-loop μ-loop
+mul-row-4 c = record { fits = omega (arith, c .before .before .before .before .before .before .lowest .ensures .node) }
 
 element-set-from-row-2 : tie.Need-element-set-from-row-2 Inv-loop2 μ-loop2 Inv-loop μ-loop
 element-set-from-row-2 c = c .before .before .before .before .before .before .lowest .ensures .node
@@ -488,8 +478,8 @@ advanced-requires c κs =
 enum-known-verdict : tie.Need-enum-known-verdict Inv-loop2 μ-loop2 Inv-loop μ-loop
 enum-known-verdict c = search needs
 
-ids-kept : (m : tie.At-match2-came Inv-loop2 μ-loop2 Inv-loop μ-loop) → length (m .match2 .ids) ≡ 504
-ids-kept m = ⊎-elim (λ w. rw (w .7) (ids-long (record { before = record { before = record { before = record { before = m .before; match2 = w .0 }; enum-told2 = w .1 }; growth = w .2 }; loop2 = w .3 }))) (λ w. rw (w .4) refl) (m .match2 .came)
+ids-kept : (m : tie.At-match4-came Inv-loop2 μ-loop2 Inv-loop μ-loop) → length (m .match4 .ids) ≡ 504
+ids-kept m = ⊎-elim (λ w. rw (w .7) (ids-long (record { before = record { before = record { before = record { before = m .before; match4 = w .0 }; enum-told4 = w .1 }; growth = w .2 }; loop2 = w .3 }))) (λ w. rw (w .4) refl) (m .match4 .came)
 
 slice-aggregate-put-ticked : tie.Need-slice-aggregate-put-ticked Inv-loop2 μ-loop2 Inv-loop μ-loop
 slice-aggregate-put-ticked c = sym (ids-kept (c .before))
@@ -525,10 +515,10 @@ loop-again-2 c =
     (tick-answered _ _ _ _ (is-ticked m .0) (is-ticked m .1) (put .put-ticked .ensures)) (put .put-ticked .kept .1 .1 .0)
 
 -- ---- a plan
-enum-told-3 : tie.Need-enum-told-3 Inv-loop2 μ-loop2 Inv-loop μ-loop
-enum-told-3 c = search needs
+enum-told-5 : tie.Need-enum-told-5 Inv-loop2 μ-loop2 Inv-loop μ-loop
+enum-told-5 c = search needs
 
-abbrev plan-asked : tie.After-is-due Inv-loop2 μ-loop2 Inv-loop μ-loop → tie.After-enum-told4 Inv-loop2 μ-loop2 Inv-loop μ-loop
+abbrev plan-asked : tie.After-is-due Inv-loop2 μ-loop2 Inv-loop μ-loop → tie.After-enum-told5 Inv-loop2 μ-loop2 Inv-loop μ-loop
 plan-asked d = d .before .before
 
 abbrev plan-turn : tie.After-is-due Inv-loop2 μ-loop2 Inv-loop μ-loop → Turn
@@ -580,10 +570,9 @@ loop-less-3 c = less-at (plan-turn (c .before .before .before .before .before .b
 loop-again-3 : tie.Need-loop-again-3 Inv-loop2 μ-loop2 Inv-loop μ-loop
 loop-again-3 c =
     let put = c .before .before in
-    let done = put .before .before .before .before .before in
-    let asked = done .before in
-    again-at (asked .before .before) _ (asked .enum-told4 .given .1) plan-is-call _
-    (plan-answered _ _ _ (done .plan .ensures .0) (put .put-planned .ensures)) (put .put-planned .kept .1 .1 .1 .0)
+    let j = put .before .before .before .before in
+    again-at (plan-turn (j .before)) _ (plan-asked (j .before) .enum-told5 .given .1) plan-is-call _
+    (plan-answered _ _ _ (is-planned j) (put .put-planned .ensures)) (put .put-planned .kept .1 .1 .1 .0)
 
 -- ---- a setting
 enum-known-call-3 : tie.Need-enum-known-call-3 Inv-loop2 μ-loop2 Inv-loop μ-loop
@@ -673,7 +662,7 @@ run-spec =
     loop-again
     enum-known-call-2
     verdict-requires
-    enum-told-3
+    enum-told-4
     growth-requires
     loop2-holds
     lowest-requires
@@ -685,8 +674,8 @@ run-spec =
     mul-settle
     element-copy-out-settle
     settle-requires
-    mul-queue-2
-    element-copy-out-queue-2
+    mul-queue-3
+    element-copy-out-queue-3
     mul-ids
     sub-released
     part-ids-start
@@ -714,8 +703,10 @@ run-spec =
     add-count-2
     loop-less-2
     loop-again-2
-    enum-told-4
-    plan-requires
+    enum-told-5
+    is-due-requires
+    parts-requires
+    restarted-requires
     sub-put-planned
     part-put-planned-start
     part-put-planned-end

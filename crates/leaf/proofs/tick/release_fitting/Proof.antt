@@ -71,10 +71,14 @@ charged-requires c κs =
     first-is-payable (at .loop .inv) cost (first-told (at .loop .inv) cost (test .before .fits2 .ensures) (test .if1 .taken))
 
 behind-requires : tie.Need-behind-requires Inv-loop μ-loop
-behind-requires c κs = c .before .before .before .before .before .before .before .loop .inv .ready .waiting .head-in
+behind-requires c κs =
+    let goes = c .before .before .before .before .before .before in
+    goes .before .loop .inv .ready .waiting .head-in
 
 sub-len : tie.Need-sub-len Inv-loop μ-loop
-sub-len c = omega (arith, c .before .before .before .before .before .before .before .loop-test .taken)
+sub-len c =
+    let goes = c .before .before .before .before .before .before .before in
+    omega (arith, goes .loop-test .taken)
 
 add-count : tie.Need-add-count Inv-loop μ-loop
 add-count c =
@@ -83,7 +87,9 @@ add-count c =
     omega (arith, at .loop .inv .room, goes .loop-test .taken, at .before .before .good)
 
 loop-less : tie.Need-loop-less Inv-loop μ-loop
-loop-less c = omega (arith, c .before .before .before .before .before .before .before .loop-test .taken)
+loop-less c =
+    let goes = c .before .before .before .before .before .before .before in
+    omega (arith, goes .loop-test .taken)
 
 same-length : tie.Need-same-length Inv-loop μ-loop
 same-length c = c .before .before .before .before .before .loop .inv .size

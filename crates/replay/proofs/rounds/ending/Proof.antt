@@ -1,4 +1,4 @@
--- `replay::rounds::ending` meets its contract: where the run goes on no more, its last round ended it.
+-- `replay::rounds::ending` meets its contract, by whether the run may still go on.
 -- Assumes nothing.
 use Rattle.replay.proofs.rounds.ending.Statement.{statement}
 use Rattle.replay.proofs.rounds.ending.Tie as tie

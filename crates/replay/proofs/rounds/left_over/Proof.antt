@@ -1,4 +1,4 @@
--- `replay::rounds::left_over` meets its contract, by what `carry` ensures.
+-- `replay::rounds::left-over` meets its contract, by what `carry` ensures.
 -- Assumes nothing.
 use mathlib.Core.Path.{refl, ap, _∙_}
 use Prim.Native.Nat.{ℕ}
