@@ -2,24 +2,17 @@
 # The documents against the files. Every must-fail edit that the map (docs/proof-map.md, theorems.md and guards.md) or
 # docs/entries.md names is there, and every edit that is there is named in the map or in a table of edits. An edit is named
 # as `crate/name`, or by its bare name in a table that says its crate: those of docs/guards.md, and the last column of the
-# entries. Every path and every theorem that README.md or docs/*.md names is there. And the second program's folders are
-# those of its table, in its order. The last line is 'N passed, M failed'.
+# entries. Every path, every theorem and every item of a crate (`crate::item`) that README.md or docs/*.md names is there.
+# And the second program's folders are those of its table, in its order. The last line is 'N passed, M failed'.
 set -uo pipefail
 export LC_ALL=C
 cd "$(dirname "$0")/.." || exit 1
 source agreement/common
+source tests/common
 
 map=(docs/proof-map.md docs/theorems.md docs/guards.md)
-passed=0
-failed=0
 work=$(mktemp -d) || exit 1
 trap 'rm -rf "$work"' EXIT
-
-is() { # REASON TEST..: what is wrong if the test fails
-    local reason=$1
-    shift
-    if "$@"; then passed=$((passed + 1)); else failed=$((failed + 1)); printf 'FAILED: %s\n' "$reason"; fi
-}
 
 # What stands between backticks on standard input, one a line.
 quoted() { grep -o '`[^`]*`' | tr -d '`'; }
@@ -103,6 +96,19 @@ for document in README.md docs/*.md; do
     done < <(quoted <"$document" | grep -xE '[a-z0-9]+(-[a-z0-9]+)+' | sort -u)
 done
 
+# ---- every item of a crate: what begins with a crate's name and two colons, module by module to the last one
+is_item() {
+    local crate=${1%%::*} rest=${1#*::} part
+    for part in ${rest//::/ }; do
+        grep -rqE "\\b(fn|struct|enum|const|mod) $part\\b" "crates/$crate/src" || return
+    done
+}
+for document in README.md docs/*.md; do
+    while read -r name; do
+        is "$document names $name, which its crate does not have" is_item "$name"
+    done < <(quoted <"$document" | sed 's/(.*//' | grep -xE "($crates)(::[A-Za-z0-9_]+)+" | sort -u)
+done
+
 # ---- the second program's folders: all are in its table, and each uses none that stands below it there
 rows second/README.md 'Where things are' >"$work/rows.folders"
 is "the table of the second program's folders has no row" [ -s "$work/rows.folders" ]
@@ -119,4 +125,4 @@ for folder in second/src/*/; do
 done
 
 # The documents may say a name or two less; none of the loops above may run over nothing.
-close_count "$passed" "$failed" 650
+close_count "$passed" "$failed" 820

@@ -13,12 +13,11 @@ binary=$(readlink -f "${1:?usage: tests/replay.sh BINARY [SECOND]}")
 [ "$binary" != "$top/replay" ] || binary=$top/target/bin/replay
 second=${2:+$(readlink -f "$2")}
 source "$here/../agreement/common"
+source "$here/common"
 work=$(mktemp -d) || exit 1
 trap 'rm -rf "$work"' EXIT
 cd "$work" || exit 1
 
-passed=0
-failed=0
 limit=30
 memory=32768 # KiB of addresses: what it may take, however long the trace is
 # An emulator takes memory for itself, and time.
@@ -28,19 +27,7 @@ if [ "$(uname -m)" != x86_64 ]; then
 fi
 hint='(name a trace file, or none to read standard input)'
 full='replay: cannot write standard output (make room there, or send it elsewhere)'
-
-is() { # NAME TEST..
-    local name=$1
-    shift
-    if "$@"; then passed=$((passed + 1)); else failed=$((failed + 1)); printf 'FAILED: %s\n' "$name"; fi
-}
-
-# So many checks are due, without those that cannot be made here: CHECKS REASON.
 due=207
-skip() {
-    due=$((due - $1))
-    printf 'not run: %s\n' "$2"
-}
 
 # Makes a folder as a clone has it, with ./replay: FOLDER.
 clone() {

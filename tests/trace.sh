@@ -8,27 +8,14 @@ here=$(cd "$(dirname "$0")" && pwd -P)
 tool=$(readlink -f "${1:-$here/../trace}")
 flight=$(readlink -f "$here/../examples/flight.trace")
 source "$here/../agreement/common"
+source "$here/common"
 work=$(mktemp -d) || exit 1
 trap 'rm -rf "$work"' EXIT
 cd "$work" || exit 1
 
-passed=0
-failed=0
 limit=60
 memory=32768 # KiB of addresses: what it may take, however long the input is
-
-is() { # NAME TEST..
-    local name=$1
-    shift
-    if "$@"; then passed=$((passed + 1)); else failed=$((failed + 1)); printf 'FAILED: %s\n' "$name"; fi
-}
-
-# So many checks are due, without those that cannot be made here: CHECKS REASON.
 due=108
-skip() {
-    due=$((due - $1))
-    printf 'not run: %s\n' "$2"
-}
 
 # Runs a command within the limits; what it wrote is in out and err, and how it ended in status.
 within() {
@@ -263,10 +250,10 @@ status=$?
 is "and so for a text" only_said 0 'trace: waits for lines of text on standard input'
 ./setting typed timeout "$limit" "$tool" text - >out 2>err
 status=$?
-is "but not where the terminal is named" wrote nothing
+is "and where the terminal is named" only_said 0 'trace: waits for a trace on standard input'
 ./setting typed timeout "$limit" "$tool" text flight >out 2>err
 status=$?
-is "nor where a file is" wrote flight.text
+is "but not where a file is" wrote flight.text
 
 blank=".$(printf 's%.0s' {1..24})."
 watched() {

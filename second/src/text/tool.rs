@@ -120,18 +120,17 @@ fn read_words(words: &[OsString]) -> Result<Asked, String> {
     Ok(Asked::File(file))
 }
 
-/// Who names nothing at a terminal may not know that the tool waits.
+/// Who is at a terminal and names no file may not know that the tool waits.
 fn open(command: Command, file: Option<OsString>) -> io::Result<Input> {
     match file {
-        None => {
+        Some(file) if file != "-" => Input::open(&file),
+        _ => {
             if is_terminal(STANDARD_INPUT) {
                 let what = command.waits_for();
                 say(&format!("waits for {} on standard input", what));
             }
             Input::standard()
         }
-        Some(file) if file == "-" => Input::standard(),
-        Some(file) => Input::open(&file),
     }
 }
 
