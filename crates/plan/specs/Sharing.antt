@@ -1,16 +1,32 @@
--- What step 4 of a plan asks of those before it, what it hands out, and the state that a plan's parts make.
+-- What a plan is shown of a state, what its step 4 asks of those before it and hands out, and the state that a plan's parts
+-- make.
 -- Assumes nothing.
 use mathlib.Core.Path.{_≡_}
 use mathlib.Core.Bool.{true, false, cond}
 use mathlib.Core.List.{List}
-use Prim.Native.Nat.{ℕ}
-use Rattle.rules.specs.Words.{has, noNode}
-use Rattle.rules.specs.Budget.{withClock, withSharing, withBooks}
+use Prim.Native.Nat.{ℕ, _<_}
+use Rattle.rules.specs.Words.{table, has, noNode}
+use Rattle.rules.specs.Budget.{queueAt, withClock, withSharing, withBooks}
 use Rattle.rules.specs.Plan.{isDonation, donated, restartedClock}
+use Rattle.rules.specs.Invariant.{Sound}
+use Rattle.rules.specs.declared.units.Virt.{Virt}
+use Rattle.rules.specs.declared.tree.Tree.{Tree}
+use Rattle.rules.specs.declared.budget.Row.{Row}
 use Rattle.rules.specs.declared.budget.Controller.{Controller}
 use Rattle.donation.specs.Donation.{Donation}
 use Rattle.plan.specs.declared.Sharing.{Sharing}
 use Rattle.plan.specs.declared.Planned.{Planned}
+
+-- these are the parts of a state in which a plan is not refused; of each queue it is how many wait there
+pub record Shown (c : Controller) (tree : Tree) (since : Virt) (was : ℕ) (before : List ℕ) (rows : List Row) (waiting : List ℕ) : Type 0 where
+  pub sound : Sound c
+  pub passed : 0 < c .clock .since .0
+  pub same-tree : tree ≡ c .tree
+  pub same-since : since ≡ c .clock .since
+  pub same-active : was ≡ c .active
+  pub same-shares : before ≡ c .shares
+  pub same-rows : rows ≡ c .rows
+  pub counts : waiting ≡ table (λ n. queueAt c n .len)
 
 -- the root neither is active nor gives, and what donors give can be worked out
 pub record CanShare (active donors : ℕ) (bases targets : List ℕ) : Type 0 where

@@ -1,19 +1,20 @@
 // The entry plan: debts are forgiven, idle leaves go inactive, base shares are worked out anew and donated, and usage
-// and E start at 0. Each function is one step; what a step does to one leaf is the crate leaf's.
+// and E start at 0. Each function is one step, or what a step does to one leaf beside what the crate leaf says of it. Only
+// `parts` holds all rows, since a step that took them would copy them: the steps over rows are its loops.
 ghost use mathlib.Core.Path.{_≡_};
 ghost use mathlib.Core.Bool.{_&&_};
-ghost use Prim.Native.Nat.{_≤_, _<_};
+ghost use Prim.Native.Nat.{_*_, _≤_, _<_};
 ghost use lib.Dec.{ltb};
 ghost use Rattle.rules.specs.Numbers.{sinceMost};
 ghost use Rattle.rules.specs.Plan.{isQuiet, forgiven as forgivenOf, restartedClock, plan as planOf};
 ghost use Rattle.rules.specs.Refusals.{verdictNumber, due, planChecks};
 ghost use Rattle.rules.specs.Entries.{planned};
-ghost use Rattle.rules.specs.Invariant.{Sound};
+ghost use Rattle.rules.specs.Invariant.{worthMost, Sound};
 ghost use Rattle.leaf.specs.Alone.{staysWith, isDonorWith};
 ghost use Rattle.leaf.specs.Fit.{usageMost};
-ghost use Rattle.plan.specs.Sharing.{CanShare, sharingOf, putPlan};
-ghost use Rattle.plan.specs.Steps.{usageOf, stayingOf, targetsOf, donorsOf, closedRows, Grows, Clears};
-use controller::shares::rebudgeted;
+ghost use Rattle.rules.specs.declared.budget.Controller.{Controller};
+ghost use Rattle.plan.specs.Sharing.{CanShare, sharingOf, Shown, putPlan};
+ghost use Rattle.plan.specs.Steps.{usageOf, targetsOf, closedRow, plannedRow, Grows, Clears};
 use donation::donated;
 use donation::is_donation;
 use leaf::plan::forgiven;
@@ -27,6 +28,7 @@ use rules::budget::Outcome;
 use rules::budget::Row;
 use rules::refusals::Refusal;
 use rules::refusals::Verdict;
+use rules::tree::Tree;
 use rules::units::Abs;
 use rules::units::Virt;
 use sets::has;
@@ -35,16 +37,15 @@ use sets::remove;
 use tree::shares::base_shares;
 
 // The usage of all leaves.
-fn usage_all(usages: [Abs; 64]) -> Abs
-    requires { ⌜ usageOf usages .0 ≤ usageMost ⌝ }
-    ensures { λ r. ⌜ r ≡ usageOf usages ⌝ }
+fn usage_all<'a>(usages: &'a [u64; 64]) -> Abs
+    requires { ⌜ usageOf (now usages) .0 ≤ usageMost ⌝ }
+    ensures { λ r. ⌜ r ≡ usageOf (now (usages .entry)) ⌝ }
 {
     let mut sum: u64 = 0;
     let mut n: usize = 0;
     while n < 63 {
         n += 1;
-        let usage = usages[n];
-        sum += usage.0;
+        sum += usages[n];
     }
     Abs(sum)
 }
@@ -92,69 +93,31 @@ fn gives(active: bool, quiet: bool, target: u32, base: u32, row: Row, waiting: u
     }
 }
 
-// "A leaf with no accepted bio .. becomes inactive": those active after the plan.
-fn active_after(active: u64, quiet: bool, rows: [Row; 64], waiting: [u8; 64]) -> u64
-    ensures { λ r. ⌜ r ≡ stayingOf active quiet rows waiting ⌝ }
-{
-    let mut kept = active;
-    let mut n: usize = 0;
-    while n < 64 {
-        let row = rows[n];
-        kept = cleared(kept, n, keeps(quiet, row, waiting[n]));
-        n += 1;
-    }
-    kept
-}
-
 // The target of each leaf, by its usage since the last plan.
-fn targets_in(usages: [Abs; 64], since: Virt) -> [u32; 64]
+fn targets_in<'a>(usages: &'a [u64; 64], since: Virt) -> [u32; 64]
     requires { ⌜ (0 < since .0) × (since .0 ≤ sinceMost) ⌝ }
-    ensures { λ r. ⌜ r ≡ targetsOf since usages ⌝ }
+    ensures { λ r. ⌜ r ≡ targetsOf since (now (usages .entry)) ⌝ }
 {
     let mut targets = [0u32; 64];
     let mut n: usize = 0;
     while n < 64 {
         let usage = usages[n];
-        targets[n] = target_of(since, usage) as u32;
+        targets[n] = target_of(since, Abs(usage)) as u32;
         n += 1;
     }
     targets
 }
 
-// The active leaves that can give.
-fn donors_in<'a>(
-    active: u64,
-    quiet: bool,
-    rows: [Row; 64],
-    waiting: [u8; 64],
-    bases: &'a [u32; 64],
-    targets: &'a [u32; 64],
-) -> u64
-    ensures { λ r. ⌜ r ≡ donorsOf active quiet rows waiting (now (bases .entry)) (now (targets .entry)) ⌝ }
+// A row once the plan is over: its budget follows its share from the one before to the one after.
+fn planned_row(quiet: bool, stay: bool, before: u32, after: u32, row: Row) -> Row
+    requires { ⌜ closedRow quiet stay row .budget .0 * before ≤ worthMost ⌝ }
+    ensures { λ r. ⌜ r ≡ plannedRow quiet stay before after row ⌝ }
 {
-    let mut donors: u64 = 0;
-    let mut n: usize = 0;
-    while n < 64 {
-        let row = rows[n];
-        donors = grown(
-            donors,
-            n,
-            gives(has(active, n), quiet, targets[n], bases[n], row, waiting[n]),
-        );
-        n += 1;
-    }
-    donors
-}
-
-// The rows once the plan is over.
-fn closed_rows(rows: [Row; 64], quiet: bool, active: u64) -> [Row; 64]
-    ensures { λ r. ⌜ r ≡ closedRows rows quiet active ⌝ }
-{
-    let mut next = rows;
-    for n in 0..64usize {
-        let row = next[n];
-        next[n] = plan_row(quiet, has(active, n), row);
-    }
+    let closed = plan_row(quiet, stay, row);
+    let budget = closed.budget;
+    let scaled = units::rebudget(before as u64, after as u64, budget);
+    let mut next = closed;
+    next.budget = scaled;
     next
 }
 
@@ -187,40 +150,53 @@ pub struct Planned {
     pub rows: [Row; 64],
 }
 
-// A plan that is not refused. It answers what changes, and its caller puts this into the state that it holds. The steps
-// take parts of the state: a step that took the whole state would copy it.
-pub fn parts(c: Controller) -> Planned
-    requires { ⌜ Sound c × (0 < c .clock .since .0) ⌝ }
-    ensures { λ r. ⌜ putPlan r c ≡ planOf c ⌝ }
+// A plan that is not refused, shown what it needs of the state: it answers what changes, and its caller puts this into the
+// state that it holds.
+pub fn parts<'a>(
+    tree: Tree,
+    since: Virt,
+    was: u64,
+    before: &'a [u32; 64],
+    mut rows: [Row; 64],
+    waiting: &'a [u8; 64],
+) -> Planned
+    requires { ⌜ ((c : Controller) × Shown c tree since was (now before) rows (now waiting)) ⌝ }
+    ensures { λ r. ⌜ ((c : Controller) → Shown c tree since was (now (before .entry)) rows (now (waiting .entry)) → putPlan r c ≡ planOf c) ⌝ }
 {
-    let clock = c.clock;
-    let since = clock.since;
-    let rows = c.rows;
-    let mut usages = [Abs(0); 64];
-    let mut waiting = [0u8; 64];
+    let mut usages = [0u64; 64];
     for n in 0..64usize {
-        let row = c.rows[n];
+        let row = rows[n];
         let usage = row.usage;
-        usages[n] = usage;
-        let queue = c.queues[n];
-        waiting[n] = queue.len;
+        usages[n] = usage.0;
     }
-    let quiet = is_quiet(usage_all(usages), since);
-    let active = active_after(c.active, quiet, rows, waiting);
-    let tree = c.tree;
+    let quiet = is_quiet(usage_all(&usages), since);
+    let mut active = was;
+    for n in 0..64usize {
+        let row = rows[n];
+        active = cleared(active, n, keeps(quiet, row, waiting[n]));
+    }
     let bases = base_shares(tree, active);
-    let targets = targets_in(usages, since);
-    let donors = donors_in(active, quiet, rows, waiting, &bases, &targets);
-    let next = closed_rows(rows, quiet, active);
+    let targets = targets_in(&usages, since);
+    let mut donors: u64 = 0;
+    for n in 0..64usize {
+        let row = rows[n];
+        donors = grown(
+            donors,
+            n,
+            gives(has(active, n), quiet, targets[n], bases[n], row, waiting[n]),
+        );
+    }
     let sharing = shared(active, donors, bases, targets);
-    let before = c.shares;
     let shares = sharing.shares;
-    let scaled = rebudgeted(next, &before, &shares);
+    for n in 0..64usize {
+        let row = rows[n];
+        rows[n] = planned_row(quiet, has(active, n), before[n], shares[n], row);
+    }
     Planned {
         active,
         donors: sharing.donors,
         shares,
-        rows: scaled,
+        rows,
     }
 }
 
@@ -253,7 +229,15 @@ pub fn plan(mut c: Controller) -> Outcome
             state: c,
         };
     }
-    let next = parts(c);
+    let mut waiting = [0u8; 64];
+    for n in 0..64usize {
+        waiting[n] = c.queues[n].len;
+    }
+    let tree = c.tree;
+    let rows = c.rows;
+    let before = c.shares;
+    let since = clock.since;
+    let next = parts(tree, since, c.active, &before, rows, &waiting);
     let again = restarted(clock);
     let shares = next.shares;
     let rows = next.rows;

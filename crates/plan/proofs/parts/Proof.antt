@@ -1,154 +1,174 @@
 -- `parts` meets its contract: its steps are those of the rules, and the invariant meets what each asks.
 -- Assumes nothing.
-use mathlib.Core.Path.{_≡_, refl, ap}
-use Prim.Native.Nat.{_-_, _≤_, _<_}
+use mathlib.Core.Bool.{Bool}
+use mathlib.Core.Path.{_≡_, refl, ap, _∙_}
+use Prim.Native.Nat.{ℕ, _-_, _≤_, _<_}
 use native.Mathlib.Omega.{arith}
-use lib.ListN.{replicate}
+use lib.ListN.{length, getD, replicate}
 use borrow.Author.Needs.{needs}
-use Rattle.rules.specs.Words.{table}
-use Rattle.rules.specs.Units.{abs}
-use Rattle.rules.specs.Budget.{rowAt, queueAt, emptyQueue}
-use Rattle.rules.specs.Plan.{quietIn, activeAfter, donorsIn}
-use Rattle.rules.specs.Laws.Tables.{getD-inside}
+use Rattle.rules.specs.Words.{table, setTo, setOf}
+use Rattle.rules.specs.Plan.{isQuiet}
+use Rattle.rules.specs.declared.units.Abs.{Abs}
 use Rattle.rules.specs.Laws.Sweeps.{swept, place-put, places-done}
-use Rattle.rules.specs.declared.budget.Queue.{Queue}
-use Rattle.leaf.specs.Alone.{lengthOnly}
-use Rattle.plan.proofs.Steps.{Usages, Waiting, used-little, quiet-by-usages, active-by-waiting, targets-by-usages, donors-by-waiting, still-within, ready, closed-worthy, is-plan}
+use Rattle.plan.specs.Sharing.{Shown}
+use Rattle.plan.specs.Steps.{usageAt, keepsAt, givesAt, plannedAt, usageOf, stayingOf, targetsOf, leftAt}
+use Rattle.plan.proofs.Turns.{none-cleared, all-cleared}
+use Rattle.plan.proofs.Steps.{Usages, Worked, used-little, since-fits, still-within, can-scale, planned-put, ready, is-plan}
 use Rattle.plan.proofs.parts.Statement.{statement}
 use Rattle.plan.proofs.parts.Tie as tie
 
+-- ---- the loops: usages are read, those that do not stay are cleared, those that give are put in, rows are planned
 abbrev Inv-loop : tie.InvT-loop
-Inv-loop c since rows usages₀ waiting₀ n₀ usages waiting n =
-    (usages ≡ swept (table (λ k. rowAt c k .usage)) usages₀ n) × (waiting ≡ swept (table (λ k. queueAt c k .len)) waiting₀ n) × (n ≤ 64)
+Inv-loop tree since was before waiting rows usages₀ n₀ usages n = (usages ≡ swept (table (usageAt rows)) usages₀ n) × (n ≤ 64)
 
 abbrev μ-loop : tie.MeasureT-loop
-μ-loop c since rows usages₀ waiting₀ n₀ usages waiting n = 64 - n
+μ-loop tree since was before waiting rows usages₀ n₀ usages n = 64 - n
 
--- ---- where each leaf was read
-abbrev start : tie.After-loop Inv-loop μ-loop → tie.Start Inv-loop μ-loop
-start c = c .before .before .before .before .before
+abbrev Inv-loop2 : tie.InvT-loop2
+Inv-loop2 tree since was before waiting rows usages quiet active₀ n₀ active n =
+    (active ≡ setOf (leftAt was (keepsAt quiet rows waiting) n)) × (n ≤ 64)
 
-usages-read : (c : tie.After-loop Inv-loop μ-loop) → Usages (start c .args .t1) (c .before .loop .usages)
-usages-read c =
+abbrev μ-loop2 : tie.MeasureT-loop2
+μ-loop2 tree since was before waiting rows usages quiet active₀ n₀ active n = 64 - n
+
+abbrev Inv-loop3 : tie.InvT-loop3
+Inv-loop3 was before waiting rows quiet active bases targets donors₀ n₀ donors n =
+    (donors ≡ setTo (givesAt active quiet bases targets rows waiting) n) × (n ≤ 64)
+
+abbrev μ-loop3 : tie.MeasureT-loop3
+μ-loop3 was before waiting rows quiet active bases targets donors₀ n₀ donors n = 64 - n
+
+abbrev Inv-loop4 : tie.InvT-loop4
+Inv-loop4 was before waiting rows₀ quiet active donors sharing shares n₀ rows n =
+    (rows ≡ swept (table (plannedAt quiet active before shares rows₀)) rows₀ n) × (n ≤ 64)
+
+abbrev μ-loop4 : tie.MeasureT-loop4
+μ-loop4 was before waiting rows₀ quiet active donors sharing shares n₀ rows n = 64 - n
+
+-- ---- where each step stands, and what is known there
+abbrev begun : tie.After-usages Inv-loop μ-loop Inv-loop2 μ-loop2 Inv-loop3 μ-loop3 Inv-loop4 μ-loop4 → tie.Start Inv-loop μ-loop Inv-loop2 μ-loop2 Inv-loop3 μ-loop3 Inv-loop4 μ-loop4
+begun u = u .before .before .before
+
+abbrev quiet-at : tie.After-targets-in Inv-loop μ-loop Inv-loop2 μ-loop2 Inv-loop3 μ-loop3 Inv-loop4 μ-loop4 → tie.After-is-quiet Inv-loop μ-loop Inv-loop2 μ-loop2 Inv-loop3 μ-loop3 Inv-loop4 μ-loop4
+quiet-at t = t .before .before .before .before .before
+
+abbrev active-at : tie.After-targets-in Inv-loop μ-loop Inv-loop2 μ-loop2 Inv-loop3 μ-loop3 Inv-loop4 μ-loop4 → ℕ
+active-at t = t .before .before .before .before .loop2 .active
+
+read : (c : tie.After-loop Inv-loop μ-loop Inv-loop2 μ-loop2 Inv-loop3 μ-loop3 Inv-loop4 μ-loop4) → Usages (c .before .before .args .t5) (c .before .loop .usages)
+read c =
     let at = c .before in
-    places-done (λ k. rowAt (start c .args .t1) k .usage) (replicate 64 (abs 0)) _ (at .loop .n) refl (at .loop .inv .0) (search needs)
+    places-done (usageAt (at .before .args .t5)) (replicate 64 0) (at .loop .usages) (at .loop .n) refl (at .loop .inv .0) (search needs)
 
-waiting-read : (c : tie.After-loop Inv-loop μ-loop) → Waiting (start c .args .t1) (c .before .loop .waiting)
-waiting-read c =
+shown-to : (c : tie.After-loop2 Inv-loop μ-loop Inv-loop2 μ-loop2 Inv-loop3 μ-loop3 Inv-loop4 μ-loop4) → let start = begun (c .before .before .before .before) in let a = start .args in
+    Shown (start .pre .0) (a .tree) (a .since) (a .was) (a .before .now) (a .t5) (a .waiting .now)
+shown-to c = begun (c .before .before .before .before) .pre .1
+
+stay : (c : tie.After-loop2 Inv-loop μ-loop Inv-loop2 μ-loop2 Inv-loop3 μ-loop3 Inv-loop4 μ-loop4) → let q = c .before .before in let a = begun (q .before .before) .args in
+    c .before .loop2 .active ≡ stayingOf (a .was) (q .is-quiet .result) (a .t5) (a .waiting .now)
+stay c =
     let at = c .before in
-    places-done (λ k. queueAt (start c .args .t1) k .len) (replicate 64 0) _ (at .loop .n) refl (at .loop .inv .1) (search needs)
+    let a = begun (at .before .before .before) .args in
+    let p : ℕ → Bool = keepsAt (at .before .is-quiet .result) (a .t5) (a .waiting .now) in
+    at .loop2 .inv .0 ∙ ap (λ (n : ℕ). setOf (leftAt (a .was) p n)) (search needs) ∙ all-cleared (a .was) p
 
-loop-holds : tie.Need-loop-holds Inv-loop μ-loop
-loop-holds c = search needs
+rows-64 : (t : tie.After-targets-in Inv-loop μ-loop Inv-loop2 μ-loop2 Inv-loop3 μ-loop3 Inv-loop4 μ-loop4) → length (begun (quiet-at t .before .before) .args .t5) ≡ 64
+rows-64 t = search needs
 
-mul-row : tie.Need-mul-row Inv-loop μ-loop
-mul-row c = search needs
+worked : (c : tie.After-loop3 Inv-loop μ-loop Inv-loop2 μ-loop2 Inv-loop3 μ-loop3 Inv-loop4 μ-loop4) → let t = c .before .before in let q = quiet-at t in let a = begun (q .before .before) .args in
+    Worked (a .tree) (a .since) (a .was) (a .t5) (a .waiting .now) (q .is-quiet .result) (active-at t) (t .before .before .base-shares .result)
+    (t .targets-in .result) (c .before .loop3 .donors)
+worked c =
+    let t = c .before .before in
+    let q = quiet-at t in
+    let a = begun (q .before .before) .args in
+    let usages = read (q .before .before .before) in
+    record {
+      quiet-by = q .is-quiet .ensures ∙ ap (λ (u : Abs). isQuiet u (a .since)) (q .before .usage-all .ensures ∙ ap usageOf usages);
+      active-by = stay (t .before .before .before);
+      bases-by = t .before .before .base-shares .ensures;
+      targets-by = t .targets-in .ensures ∙ ap (targetsOf (a .since)) usages;
+      donors-by =
+          c .before .loop3 .inv .0
+          ∙ ap (setTo (givesAt (active-at t) (q .is-quiet .result) (t .before .before .base-shares .result) (t .targets-in .result) (a .t5) (a .waiting .now))) (search needs);
+    }
 
-element-copy-out-row : tie.Need-element-copy-out-row Inv-loop μ-loop
-element-copy-out-row c = search needs
-
-mul-usages : tie.Need-mul-usages Inv-loop μ-loop
-mul-usages c = search needs
-
-array-set-from-usages : tie.Need-array-set-from-usages Inv-loop μ-loop
-array-set-from-usages c = search needs
-
-mul-queue : tie.Need-mul-queue Inv-loop μ-loop
-mul-queue c = search needs
-
-element-copy-out-queue : tie.Need-element-copy-out-queue Inv-loop μ-loop
-element-copy-out-queue c = search needs
-
-array-write-waiting : tie.Need-array-write-waiting Inv-loop μ-loop
-array-write-waiting c = search needs
-
-add-n : tie.Need-add-n Inv-loop μ-loop
-add-n c = search needs
-
-loop-less : tie.Need-loop-less Inv-loop μ-loop
-loop-less c = search needs
-
-loop-again : tie.Need-loop-again Inv-loop μ-loop
+loop-again : tie.Need-loop-again Inv-loop μ-loop Inv-loop2 μ-loop2 Inv-loop3 μ-loop3 Inv-loop4 μ-loop4
 loop-again c =
-    let at = c .before .before .before .before in
-    let began = at .before .before .before .before in
-    let s = began .args .t1 in
-    let node : at .loop .n < 64 = search needs in (
-      place-put (λ k. rowAt s k .usage) (replicate 64 (abs 0)) (at .loop .usages) (at .loop .n) (abs 0) refl (at .loop .inv .0) node _ refl,
-      place-put (λ k. queueAt s k .len) (replicate 64 0) (at .loop .waiting) (at .loop .n) 0 refl (at .loop .inv .1) node _
-          (ap (λ (q : Queue). q .len) (getD-inside (s .queues) (at .loop .n) (lengthOnly 0) emptyQueue (rw (began .pre .0 .queues-all) node))),
-      omega arith,
+    let at = c .before .before .before in
+    let a = at .before .args in
+    (place-put (usageAt (a .t5)) (replicate 64 0) (at .loop .usages) (at .loop .n) 0 refl (at .loop .inv .0) (search needs) _ refl, search needs)
+
+usage-all-requires : tie.Need-usage-all-requires Inv-loop μ-loop Inv-loop2 μ-loop2 Inv-loop3 μ-loop3 Inv-loop4 μ-loop4
+usage-all-requires c κs = used-little (begun c .pre .1) (read (c .before))
+
+is-quiet-requires : tie.Need-is-quiet-requires Inv-loop μ-loop Inv-loop2 μ-loop2 Inv-loop3 μ-loop3 Inv-loop4 μ-loop4
+is-quiet-requires c κs = rw (c .usage-all .ensures) (used-little (begun (c .before) .pre .1) (read (c .before .before)))
+
+loop2-holds : tie.Need-loop2-holds Inv-loop μ-loop Inv-loop2 μ-loop2 Inv-loop3 μ-loop3 Inv-loop4 μ-loop4
+loop2-holds c =
+    let start = begun (c .before .before) in
+    let a = start .args in
+    (none-cleared (a .was) (keepsAt (c .is-quiet .result) (a .t5) (a .waiting .now)) (start .fits .was .fits), search needs)
+
+loop2-again : tie.Need-loop2-again Inv-loop μ-loop Inv-loop2 μ-loop2 Inv-loop3 μ-loop3 Inv-loop4 μ-loop4
+loop2-again c =
+    let at = c .before .before .before .before .before in
+    let a = begun (at .before .before .before) .args in
+    (c .cleared .ensures (a .was) (keepsAt (at .before .is-quiet .result) (a .t5) (a .waiting .now)) (at .loop2 .inv .0) (c .before .keeps .ensures), search needs)
+
+base-shares-requires : tie.Need-base-shares-requires Inv-loop μ-loop Inv-loop2 μ-loop2 Inv-loop3 μ-loop3 Inv-loop4 μ-loop4
+base-shares-requires c κs = still-within (shown-to c) (c .before .before .is-quiet .result) (stay c)
+
+targets-in-requires : tie.Need-targets-in-requires Inv-loop μ-loop Inv-loop2 μ-loop2 Inv-loop3 μ-loop3 Inv-loop4 μ-loop4
+targets-in-requires c κs = since-fits (shown-to (c .before .before))
+
+loop3-holds : tie.Need-loop3-holds Inv-loop μ-loop Inv-loop2 μ-loop2 Inv-loop3 μ-loop3 Inv-loop4 μ-loop4
+unfolding setTo
+loop3-holds c = search needs
+
+loop3-again : tie.Need-loop3-again Inv-loop μ-loop Inv-loop2 μ-loop2 Inv-loop3 μ-loop3 Inv-loop4 μ-loop4
+loop3-again c =
+    let at = c .before .before .before .before .before .before in
+    let judged = c .before .before .before in
+    let t = at .before in
+    let q = quiet-at t in
+    let a = begun (q .before .before) .args in (
+      c .grown .ensures
+          (givesAt (active-at t) (q .is-quiet .result) (t .before .before .base-shares .result) (t .targets-in .result) (a .t5) (a .waiting .now))
+          (at .loop3 .inv .0) (rw (← judged .has .ensures) (c .before .gives .ensures)),
+      search needs,
     )
 
-usage-all-requires : tie.Need-usage-all-requires Inv-loop μ-loop
-usage-all-requires c κs = used-little (start c .args .t1) (start c .pre .0) (usages-read c)
+shared-requires : tie.Need-shared-requires Inv-loop μ-loop Inv-loop2 μ-loop2 Inv-loop3 μ-loop3 Inv-loop4 μ-loop4
+shared-requires c κs = ready (shown-to (c .before .before .before .before .before)) (worked c)
 
-is-quiet-requires : tie.Need-is-quiet-requires Inv-loop μ-loop
-is-quiet-requires c κs =
-    let s = start (c .before) in
-    rw (c .usage-all .ensures) (used-little (s .args .t1) (s .pre .0) (usages-read (c .before)))
+planned-row-requires : tie.Need-planned-row-requires Inv-loop μ-loop Inv-loop2 μ-loop2 Inv-loop3 μ-loop3 Inv-loop4 μ-loop4
+planned-row-requires c κs =
+    let at = c .before .before .before .before in
+    let t = at .before .before .before .before .before in
+    can-scale (shown-to (t .before .before .before)) (quiet-at t .is-quiet .result) (active-at t) (at .before .before .shared .result .shares) (rows-64 t) (at .loop4 .inv .0)
+    (search needs) (c .before .has2 .ensures)
 
-active-after-requires : tie.Need-active-after-requires Inv-loop μ-loop
-active-after-requires c κs = search needs
+loop4-again : tie.Need-loop4-again Inv-loop μ-loop Inv-loop2 μ-loop2 Inv-loop3 μ-loop3 Inv-loop4 μ-loop4
+loop4-again c =
+    let at = c .before .before .before .before .before in
+    let t = at .before .before .before .before .before in (
+      planned-put (shown-to (t .before .before .before)) (quiet-at t .is-quiet .result) (active-at t) (at .before .before .shared .result .shares) (rows-64 t) (at .loop4 .inv .0)
+          (search needs) (c .before .before .has2 .ensures) (c .planned-row .ensures),
+      search needs,
+    )
 
--- ---- what each step worked out is the rule's
-quiet-is : (c : tie.After-is-quiet Inv-loop μ-loop) → c .is-quiet .result ≡ quietIn (start (c .before .before) .args .t1)
-quiet-is c =
-    let read = c .before .before in
-    quiet-by-usages (start read .args .t1) (usages-read read) (c .before .usage-all .ensures) (c .is-quiet .ensures)
-
-active-is : (c : tie.After-active-after Inv-loop μ-loop)
-    → c .active-after .result ≡ activeAfter (c .before .is-quiet .result) (start (c .before .before .before) .args .t1)
-active-is c =
-    let read = c .before .before .before in
-    active-by-waiting (start read .args .t1) (c .before .is-quiet .result) (waiting-read read) (c .active-after .ensures)
-
-base-shares-requires : tie.Need-base-shares-requires Inv-loop μ-loop
-base-shares-requires c κs =
-    let sound = start (c .before .before .before .before) .pre .0 in
-    (sound .tree, still-within sound (c .before .before .is-quiet .result) (c .before .active-after .result) (active-is (c .before)))
-
-targets-in-requires : tie.Need-targets-in-requires Inv-loop μ-loop
-targets-in-requires c κs = search needs
-
-donors-in-requires : tie.Need-donors-in-requires Inv-loop μ-loop
-donors-in-requires c κs = search needs
-
-closed-rows-requires : tie.Need-closed-rows-requires Inv-loop μ-loop
-closed-rows-requires c κs = search needs
-
-donors-are : (c : tie.After-donors-in Inv-loop μ-loop) → let judged = c .before .before .before .before .before .before in
-    c .donors-in .result
-    ≡ donorsIn (judged .before .is-quiet .result) (judged .active-after .result) (c .before .before .before .before .base-shares .result) (c .before .before .before .targets-in .result)
-    (start (judged .before .before .before) .args .t1)
-donors-are c =
-    let judged = c .before .before .before .before .before .before in
-    let read = judged .before .before .before in
-    donors-by-waiting (start read .args .t1) (judged .before .is-quiet .result) (judged .active-after .result) (c .before .before .before .before .base-shares .result)
-    (c .before .before .before .targets-in .result) (waiting-read read) (c .donors-in .ensures)
-
-shared-requires : tie.Need-shared-requires Inv-loop μ-loop
-shared-requires c κs =
-    let judged = c .before .before .before .before .before .before .before in
-    ready (start (judged .before .before .before) .pre .0) (judged .before .is-quiet .result) (c .before .before .before .before .targets-in .result) (active-is judged)
-    (c .before .before .before .before .before .base-shares .ensures) (donors-are (c .before))
-
--- above the need that a lie about it may leave true: the first error is what is false
-returns : tie.Need-returns Inv-loop μ-loop
+returns : tie.Need-returns Inv-loop μ-loop Inv-loop2 μ-loop2 Inv-loop3 μ-loop3 Inv-loop4 μ-loop4
 returns c =
-    let closing = c .before .before .before .before .before .before in
-    let judged = closing .before .before .before .before .before .before .before in
-    let read = judged .before .before .before in
-    let s = start read .args .t1 in
-    is-plan s (quiet-is (judged .before)) (active-is judged) (closing .before .before .before .before .before .base-shares .ensures)
-    (targets-by-usages s (usages-read read) (closing .before .before .before .before .targets-in .ensures)) (donors-are (closing .before)) (closing .closed-rows .ensures)
-    (c .before .before .before .before .before .shared .ensures) (c .rebudgeted .ensures)
-
-rebudgeted-requires : tie.Need-rebudgeted-requires Inv-loop μ-loop
-rebudgeted-requires c κs =
-    let closing = c .before .before .before .before .before in
-    let judged = closing .before .before .before .before .before .before .before in
-    closed-worthy (start (judged .before .before .before) .pre .0) (judged .before .is-quiet .result) (judged .active-after .result) (closing .closed-rows .ensures)
+    let at = c .before in
+    let given = at .before .before in
+    let t = given .before .before .before in
+    let a = begun (quiet-at t .before .before) .args in
+    λ state shown.
+    is-plan shown (worked (given .before)) (given .shared .ensures)
+    (places-done (plannedAt (quiet-at t .is-quiet .result) (active-at t) (a .before .now) (given .shared .result .shares) (a .t5)) (a .t5) (at .loop4 .rows) (at .loop4 .n)
+    (rows-64 t) (at .loop4 .inv .0) (search needs))
 
 pub parts-spec : {M : Type 1} → statement M
 parts-spec =
@@ -156,24 +176,60 @@ parts-spec =
     (tie.spec
     Inv-loop
     μ-loop
-    loop-holds
-    mul-row
-    element-copy-out-row
-    mul-usages
-    array-set-from-usages
-    mul-queue
-    element-copy-out-queue
-    array-write-waiting
-    add-n
-    loop-less
+    Inv-loop2
+    μ-loop2
+    Inv-loop3
+    μ-loop3
+    Inv-loop4
+    μ-loop4
+    (λ c. search needs)
+    (λ c. search needs)
+    (λ c. search needs)
+    (λ c. search needs)
+    (λ c. search needs)
+    (λ c. search needs)
+    (λ c. search needs)
     loop-again
     usage-all-requires
     is-quiet-requires
-    active-after-requires
+    loop2-holds
+    (λ c. search needs)
+    (λ c. search needs)
+    (λ c. search needs)
+    (λ c κs. search needs)
+    (λ c κs. search needs)
+    (λ c. search needs)
+    (λ c. search needs)
+    loop2-again
     base-shares-requires
     targets-in-requires
-    donors-in-requires
-    closed-rows-requires
+    loop3-holds
+    (λ c. search needs)
+    (λ c. search needs)
+    (λ c κs. search needs)
+    (λ c. search needs)
+    (λ c. search needs)
+    (λ c. search needs)
+    (λ c. search needs)
+    (λ c. search needs)
+    (λ c κs. search needs)
+    (λ c κs. search needs)
+    (λ c. search needs)
+    (λ c. search needs)
+    loop3-again
     shared-requires
-    rebudgeted-requires
+    (λ c. search needs)
+    (λ c. search needs)
+    (λ c. search needs)
+    (λ c κs. search needs)
+    (λ c. search needs)
+    (λ c. search needs)
+    (λ c. search needs)
+    (λ c. search needs)
+    planned-row-requires
+    (λ c. search needs)
+    (λ c. search needs)
+    (λ c. search needs)
+    (λ c. search needs)
+    loop4-again
     returns)

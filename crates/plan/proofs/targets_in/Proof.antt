@@ -11,20 +11,19 @@ use Rattle.rules.specs.Units.{abs}
 use Rattle.rules.specs.Plan.{targetOf}
 use Rattle.rules.specs.Laws.Sweeps.{swept, place-put, places-done}
 use Rattle.rules.specs.declared.units.Virt.{Virt}
-use Rattle.rules.specs.declared.units.Abs.{Abs}
 use Rattle.plan.proofs.Turns.{target-fits}
 use Rattle.plan.proofs.targets_in.Statement.{statement}
 use Rattle.plan.proofs.targets_in.Tie as tie
 
-abbrev targetAt : Virt → List Abs → ℕ → ℕ
-targetAt since usages n = targetOf since (getD usages n (abs 0))
+abbrev targetAt : Virt → List ℕ → ℕ → ℕ
+targetAt since usages n = targetOf since (abs (getD usages n 0))
 
 abbrev Inv-loop : tie.InvT-loop
-Inv-loop since usages targets₀ n₀ targets n =
+Inv-loop usages since targets₀ n₀ targets n =
     (targets ≡ swept (table (targetAt since usages)) targets₀ n) × (n ≤ 64)
 
 abbrev μ-loop : tie.MeasureT-loop
-μ-loop since usages targets₀ n₀ targets n = 64 - n
+μ-loop usages since targets₀ n₀ targets n = 64 - n
 
 loop-holds : tie.Need-loop-holds Inv-loop μ-loop
 loop-holds c = search needs
@@ -32,8 +31,8 @@ loop-holds c = search needs
 mul-usage : tie.Need-mul-usage Inv-loop μ-loop
 mul-usage c = search needs
 
-array-copy-out-usage : tie.Need-array-copy-out-usage Inv-loop μ-loop
-array-copy-out-usage c = search needs
+element-copy-out-usage : tie.Need-element-copy-out-usage Inv-loop μ-loop
+element-copy-out-usage c = search needs
 
 target-of-requires : tie.Need-target-of-requires Inv-loop μ-loop
 target-of-requires c κs = search needs
@@ -43,7 +42,7 @@ cast-targets c =
     let at = c .before .before .before in
     let start = at .before in
     let fits : c .target-of .result < 2 ^ 32 =
-    rw (c .target-of .ensures) (target-fits (start .args .since) (getD (start .args .t1) (at .loop .n) (abs 0)) (start .pre .0)) in
+    rw (c .target-of .ensures) (target-fits (start .args .since) (abs (getD (start .args .usages .now) (at .loop .n) 0)) (start .pre .0)) in
     search needs
 
 mul-targets : tie.Need-mul-targets Inv-loop μ-loop
@@ -63,7 +62,7 @@ loop-again c =
     let at = c .before .before .before in
     let a = at .before .args in
     let node : at .loop .n < 64 = search needs in (
-      place-put (targetAt (a .since) (a .t1)) (replicate 64 0) (at .loop .targets) (at .loop .n) 0 refl (at .loop .inv .0) node (c .target-of .result)
+      place-put (targetAt (a .since) (a .usages .now)) (replicate 64 0) (at .loop .targets) (at .loop .n) 0 refl (at .loop .inv .0) node (c .target-of .result)
           (c .target-of .ensures),
       omega arith,
     )
@@ -72,7 +71,7 @@ returns : tie.Need-returns Inv-loop μ-loop
 returns c =
     let at = c .before in
     let a = at .before .args in
-    places-done (targetAt (a .since) (a .t1)) (replicate 64 0) (at .loop .targets) (at .loop .n) refl (at .loop .inv .0) (search needs)
+    places-done (targetAt (a .since) (a .usages .now)) (replicate 64 0) (at .loop .targets) (at .loop .n) refl (at .loop .inv .0) (search needs)
 
 pub targets-in-spec : {M : Type 1} → statement M
 targets-in-spec =
@@ -82,7 +81,7 @@ targets-in-spec =
     μ-loop
     loop-holds
     mul-usage
-    array-copy-out-usage
+    element-copy-out-usage
     target-of-requires
     cast-targets
     mul-targets

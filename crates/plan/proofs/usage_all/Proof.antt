@@ -10,14 +10,13 @@ use lib.ListN.{getD}
 use Rattle.rules.specs.Words.{sumTo}
 use Rattle.rules.specs.Units.{abs}
 use Rattle.rules.specs.Laws.Sums.{sum-part}
-use Rattle.rules.specs.declared.units.Abs.{Abs}
 use Rattle.plan.proofs.usage_all.Statement.{statement}
 use Rattle.plan.proofs.usage_all.Tie as tie
 
-abbrev usageAt : List Abs → ℕ → ℕ
-usageAt usages n = getD usages n (abs 0) .0
+abbrev usageAt : List ℕ → ℕ → ℕ
+usageAt usages n = getD usages n 0
 
-module _ (usages : List Abs) (n sum : ℕ) (e : sum ≡ sumTo (usageAt usages) n) where
+module _ (usages : List ℕ) (n sum : ℕ) (e : sum ≡ sumTo (usageAt usages) n) where
   one-more : sum + usageAt usages (n + 1) ≡ sumTo (usageAt usages) (n + 1)
   unfolding sumTo
   one-more = rw e (simp add-one)
@@ -38,16 +37,16 @@ loop-holds c = search needs
 add-n : tie.Need-add-n Inv-loop μ-loop
 add-n c = search needs
 
-mul-usage : tie.Need-mul-usage Inv-loop μ-loop
-mul-usage c = search needs
+mul-sum : tie.Need-mul-sum Inv-loop μ-loop
+mul-sum c = search needs
 
-array-copy-out-usage : tie.Need-array-copy-out-usage Inv-loop μ-loop
-array-copy-out-usage c = search needs
+element-copy-out-sum : tie.Need-element-copy-out-sum Inv-loop μ-loop
+element-copy-out-sum c = search needs
 
 add-sum : tie.Need-add-sum Inv-loop μ-loop
 add-sum c =
-    let at = c .before .before .before in
-    let small = still-small (at .before .args .t1) (at .loop .n) (at .loop .sum) (at .loop .inv .0) (search needs) (at .before .pre) in
+    let at = c .before .before in
+    let small = still-small (at .before .args .usages .now) (at .loop .n) (at .loop .sum) (at .loop .inv .0) (search needs) (at .before .pre) in
     record { fits = omega (arith, small) }
 
 loop-less : tie.Need-loop-less Inv-loop μ-loop
@@ -55,13 +54,13 @@ loop-less c = search needs
 
 loop-again : tie.Need-loop-again Inv-loop μ-loop
 loop-again c =
-    let at = c .before .before .before in
-    (one-more (at .before .args .t1) (at .loop .n) (at .loop .sum) (at .loop .inv .0), omega arith)
+    let at = c .before .before in
+    (one-more (at .before .args .usages .now) (at .loop .n) (at .loop .sum) (at .loop .inv .0), omega arith)
 
 returns : tie.Need-returns Inv-loop μ-loop
 returns c =
     let at = c .before in
-    ap abs (at .loop .inv .0 ∙ ap (sumTo (usageAt (at .before .args .t1))) (omega arith))
+    ap abs (at .loop .inv .0 ∙ ap (sumTo (usageAt (at .before .args .usages .now))) (omega arith))
 
 pub usage-all-spec : {M : Type 1} → statement M
 usage-all-spec =
@@ -71,8 +70,8 @@ usage-all-spec =
     μ-loop
     loop-holds
     add-n
-    mul-usage
-    array-copy-out-usage
+    mul-sum
+    element-copy-out-sum
     add-sum
     loop-less
     loop-again
