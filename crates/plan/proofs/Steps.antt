@@ -32,7 +32,6 @@ use Rattle.plan.specs.Steps.{usageAt, closedRow, plannedRow, plannedAt, 
 use Rattle.plan.specs.declared.Sharing.{Sharing}
 use Rattle.plan.specs.declared.Planned.{Planned}
 use Rattle.leaf.specs.Alone.{lengthOnly, staysWith, isDonorWith, donor-by-count}
-use Rattle.rules.specs.declared.units.Abs.{Abs}
 use Rattle.rules.specs.declared.units.Virt.{Virt}
 use Rattle.rules.specs.declared.tree.Tree.{Tree}
 use Rattle.rules.specs.declared.budget.Row.{Row}

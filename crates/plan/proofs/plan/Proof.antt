@@ -45,6 +45,7 @@ returns-2 c =
     let e = accepted s (put-in s (worked .parts .result) (again .restarted .ensures) (worked .parts .ensures s (what-is-shown l))) (some-passed (l .before)) in
     (e, plan-on-paper s e)
 
+-- the needs without a name, of indices, sums and loops that begin, are found
 pub plan-spec : {M : Type 1} → statement M
 plan-spec =
     tie.close
