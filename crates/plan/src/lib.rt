@@ -1,6 +1,7 @@
 // The entry plan: debts are forgiven, idle leaves go inactive, base shares are worked out anew and donated, and usage
-// and E start at 0. Each function is one step, or what a step does to one leaf beside what the crate leaf says of it. Only
-// `parts` holds all rows, since a step that took them would copy them: the steps over rows are its loops.
+// and E start at 0. `parts` has the steps in order. It alone holds the rows of all leaves, since every function that took
+// them would copy them: a step over rows is a loop there, and what it does to one leaf is a function here or in the crate
+// leaf.
 ghost use mathlib.Core.Path.{_≡_};
 ghost use mathlib.Core.Bool.{_&&_};
 ghost use Prim.Native.Nat.{_*_, _≤_, _<_};
@@ -163,6 +164,8 @@ pub fn parts<'a>(
     requires { ⌜ ((c : Controller) × Shown c tree since was (now before) rows (now waiting)) ⌝ }
     ensures { λ r. ⌜ ((c : Controller) → Shown c tree since was (now (before .entry)) rows (now (waiting .entry)) → putPlan r c ≡ planOf c) ⌝ }
 {
+    // 1. "If twice the usage of all leaves is below E, ..". Debts stay in the rows until 5, so that each row is stored once;
+    // 2 and 3 judge a row with its debt forgiven.
     let mut usages = [0u64; 64];
     for n in 0..64usize {
         let row = rows[n];
@@ -170,11 +173,13 @@ pub fn parts<'a>(
         usages[n] = usage.0;
     }
     let quiet = is_quiet(usage_all(&usages), since);
+    // 2. "A leaf with no accepted bio .. becomes inactive".
     let mut active = was;
     for n in 0..64usize {
         let row = rows[n];
         active = cleared(active, n, keeps(quiet, row, waiting[n]));
     }
+    // 3. "Base shares anew", targets, and who is a donor.
     let bases = base_shares(tree, active);
     let targets = targets_in(&usages, since);
     let mut donors: u64 = 0;
@@ -186,8 +191,10 @@ pub fn parts<'a>(
             gives(has(active, n), quiet, targets[n], bases[n], row, waiting[n]),
         );
     }
+    // 4. "With no donor or no active non-donor, ..".
     let sharing = shared(active, donors, bases, targets);
     let shares = sharing.shares;
+    // 5. "Budgets follow" their shares, and usages start at 0.
     for n in 0..64usize {
         let row = rows[n];
         rows[n] = planned_row(quiet, has(active, n), before[n], shares[n], row);
