@@ -8,10 +8,12 @@ use native.Mathlib.Numerals.{add-one}
 use native.Mathlib.Omega.{arith}
 use lib.ListN.{length, getD, take, drop, set, length-set, take-append-drop}
 use lib.Seq.{length-take-le, take-suc-set, drop-set-lt, drop-drop}
+use borrow.Author.Tests.{ltb-false}
 use Rattle.rules.specs.Units.{abs}
-use Rattle.rules.specs.Budget.{popped, oldestId, oldestCost, charged, fits}
+use Rattle.rules.specs.Budget.{popped, oldestId, oldestCost, charged, owes, fits}
 use Rattle.rules.specs.Tick.{Release, noRelease, andCapped, gained, repayment, repaid, releaseIn, capped, lentAfter}
 use Rattle.rules.specs.Laws.Queues.{popped-sound, oldest-cost-most}
+use Rattle.rules.specs.Laws.Rows.{repayment-of-nothing}
 use Rattle.rules.specs.declared.units.Abs.{Abs}
 use Rattle.rules.specs.declared.units.Virt.{Virt}
 use Rattle.rules.specs.declared.budget.Row.{Row}
@@ -126,6 +128,12 @@ unfolding capped
 then-capped t out w e = (rw (e, w .0), w .1)
 
 -- ---- the row alone, stage by stage
+-- who owes nothing repays nothing
+pub nothing-owed : (share : ℕ) (row : Row) → owes row ≡ false → (row ≡ repaid share row) × (abs 0 ≡ repayment share row)
+unfolding repaid
+nothing-owed share row e =
+    (rw e, ap abs (sym (repayment-of-nothing share row (omega (arith, ltb-false 0 (row .debt .0) e)))))
+
 pub settles : (gain : Virt) (share : ℕ) (row : Row) (waiting : ℕ) {more paid next : Row} {p : Abs} {due : Bool}
     → more ≡ gained gain row → p ≡ repayment share more → paid ≡ repaid share more → next ≡ cappedWith paid waiting → due ≡ isDue paid waiting
     → _≡_ {A = Settled} (record { row = next; repaid = p; due = due }) (settledOf gain share row waiting)

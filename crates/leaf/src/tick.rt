@@ -1,8 +1,10 @@
 // A leaf's turn in a tick: it gains, repays, releases and is capped, in this order. Released ids go to the front of the
 // buffer that is lent to the leaf; places behind the last stay.
 ghost use mathlib.Core.Path.{_≡_};
+ghost use mathlib.Core.Bool.{true};
 ghost use Prim.Native.Nat.{_+_, _*_, _^_, _≤_, _<_};
 ghost use lib.ListN.{length};
+ghost use Rattle.rules.specs.Budget.{owes as owesOf};
 ghost use Rattle.rules.specs.Tick.{gained as gainedOf, repayment as repaymentOf, repaid as repaidOf, releaseIn, andCapped};
 ghost use Rattle.leaf.specs.Fit.{FitRow, CanRepay, CanRelease, gainMost};
 ghost use Rattle.leaf.specs.Turns.{Releases, isDue, settledOf};
@@ -52,17 +54,13 @@ fn repayment(share: u64, row: Row) -> Abs
     Abs(crate::smaller(row.debt.0, able.0))
 }
 
-// "if it owes, it repays p, and the budget falls by .."
+// "if it owes, it repays p, and the budget falls by ..": the caller asks whether it owes.
 fn repaid(p: Abs, share: u64, row: Row) -> Row
-    requires { ⌜ CanRepay share row × (p ≡ repaymentOf share row) ⌝ }
+    requires { ⌜ CanRepay share row × (p ≡ repaymentOf share row) × (owesOf row ≡ true) ⌝ }
     ensures { λ r. ⌜ r ≡ repaidOf share row ⌝ }
 {
-    if row::owes(row) {
-        let left = Abs(row.debt.0 - p.0);
-        row::with_debt(left, row::charged(p, share, row))
-    } else {
-        row
-    }
+    let left = Abs(row.debt.0 - p.0);
+    row::with_debt(left, row::charged(p, share, row))
 }
 
 // "waiting bios are released .."
@@ -128,13 +126,17 @@ pub fn settle(gain: Virt, share: u64, row: Row, waiting: u8) -> Settled
     requires { ⌜ FitRow share row × (gain .0 ≤ gainMost) ⌝ }
     ensures { λ r. ⌜ r ≡ settledOf gain share row waiting ⌝ }
 {
-    let gained = gained(gain, row);
-    let p = repayment(share, gained);
-    let repaid = repaid(p, share, gained);
+    let mut row = gained(gain, row);
+    // Most leaves owe nothing: they repay 0, and nothing is worked out for it.
+    let mut p = Abs(0);
+    if row::owes(row) {
+        p = repayment(share, row);
+        row = repaid(p, share, row);
+    }
     Settled {
-        row: capped(repaid, waiting),
+        row: capped(row, waiting),
         repaid: p,
-        due: is_due(repaid, waiting),
+        due: is_due(row, waiting),
     }
 }
 

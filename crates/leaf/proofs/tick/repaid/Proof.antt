@@ -1,6 +1,6 @@
 -- `leaf::tick::repaid` meets its contract: what is repaid is owed, and the budget can be charged for it.
 -- Assumes nothing.
-use mathlib.Core.Path.{_≡_, sym, _∙_}
+use mathlib.Core.Path.{_≡_, _∙_}
 use mathlib.Core.Bool.{true}
 use Prim.Native.Nat.{ℕ, _-_}
 use Rattle.rules.specs.Units.{abs}
@@ -14,15 +14,12 @@ use borrow.Author.Needs.{needs}
 use Rattle.leaf.proofs.tick.repaid.Statement.{statement}
 use Rattle.leaf.proofs.tick.repaid.Tie as tie
 
-owes-requires : tie.Need-owes-requires
-owes-requires c κs = search needs
-
-sub-t7 : tie.Need-sub-t7
-sub-t7 c = rw (c .before .before .before .before .pre .1) (repayment-most _ _)
+sub-t5 : tie.Need-sub-t5
+sub-t5 c = rw (c .before .before .pre .1) (repayment-most _ _)
 
 charged-requires : tie.Need-charged-requires
 charged-requires c κs =
-    let start = c .before .before .before .before in
+    let start = c .before .before in
     rw (start .pre .1) (repayment-is-payable (start .pre .0))
 
 with-debt-requires : tie.Need-with-debt-requires
@@ -35,23 +32,9 @@ pays share row p after e f g = rw (f, e, g)
 
 returns : tie.Need-returns
 returns c =
-    let asked = c .before .before .before .before in
-    let start = asked .before .before in
+    let start = c .before .before .before .before in
     let a = start .args in
-    c .with-debt .ensures
-    ∙ pays (a .share) (a .row) (a .p) (c .before .charged .result) (start .pre .1) (c .before .charged .ensures) (sym (asked .before .owes .ensures) ∙ asked .if1 .taken)
-
-returns-2 : tie.Need-returns-2
-unfolding repaid
-returns-2 c = simp (sym (c .before .owes .ensures) ∙ c .if1 .left)
+    c .with-debt .ensures ∙ pays (a .share) (a .row) (a .p) (c .before .charged .result) (start .pre .1) (c .before .charged .ensures) (start .pre .2)
 
 pub repaid-spec : {M : Type 1} → statement M
-repaid-spec =
-    tie.close
-    (tie.spec
-    owes-requires
-    sub-t7
-    charged-requires
-    with-debt-requires
-    returns
-    returns-2)
+repaid-spec = tie.close (tie.spec sub-t5 charged-requires with-debt-requires returns)

@@ -1,32 +1,47 @@
--- `leaf::tick::settle` meets its contract: gain, repay, and the cap of what is not due.
+-- `leaf::tick::settle` meets its contract: gain, repay where something is owed, and the cap of what is not due.
 -- Assumes nothing.
-use mathlib.Core.Path.{_≡_}
-use Prim.Native.Nat.{ℕ, _≤_}
+use mathlib.Core.Path.{_≡_, sym, _∙_}
+use mathlib.Core.Logic.{⊎-elim}
 use native.Mathlib.Omega.{arith}
 use borrow.Author.Needs.{needs}
-use Rattle.rules.specs.Tick.{gained}
-use Rattle.rules.specs.declared.units.Virt.{Virt}
-use Rattle.rules.specs.declared.budget.Row.{Row}
-use Rattle.leaf.specs.Fit.{FitRow, CanRepay, gainMost, gain-fits, gained-can-repay}
-use Rattle.leaf.proofs.Release.{settles}
+use Rattle.rules.specs.Tick.{repayment, repaid}
+use Rattle.leaf.specs.Fit.{CanRepay, gain-fits, gained-can-repay}
+use Rattle.leaf.proofs.Release.{nothing-owed, settles}
 use Rattle.leaf.proofs.tick.settle.Statement.{statement}
 use Rattle.leaf.proofs.tick.settle.Tie as tie
 
 gained-requires : tie.Need-gained-requires
 gained-requires c κs = gain-fits (c .pre .0) (c .args .gain) (c .pre .1)
 
-repays : {share : ℕ} {row more : Row} {gain : Virt} → FitRow share row → gain .0 ≤ gainMost → more ≡ gained gain row → CanRepay share more
-repays books small e = rw e (gained-can-repay books _ small)
+owes-requires : tie.Need-owes-requires
+owes-requires c κs = search needs
+
+-- once it is known that something is owed
+can-repay : (c : tie.Then1) → CanRepay (c .before .before .before .args .share) (c .before .before .gained .result)
+can-repay c =
+    let g = c .before .before in
+    rw (g .gained .ensures) (gained-can-repay (g .before .pre .0) (g .before .args .gain) (g .before .pre .1))
 
 repayment-requires : tie.Need-repayment-requires
-repayment-requires c κs =
-    let start = c .before in
-    omega (arith, repays (start .pre .0) (start .pre .1) (c .gained .ensures) .worth)
+repayment-requires c κs = omega (arith, can-repay c .worth)
 
 repaid-requires : tie.Need-repaid-requires
 repaid-requires c κs =
-    let start = c .before .before in
-    (repays (start .pre .0) (start .pre .1) (c .before .gained .ensures), c .repayment .ensures)
+    let asked = c .before .before in
+    (can-repay (c .before), c .repayment .ensures, sym (asked .owes .ensures) ∙ c .before .if1 .taken)
+
+-- whether it owed or not
+paid : (c : tie.Joined1) →
+    let share = c .before .before .before .args .share in
+    let more = c .before .before .gained .result in
+    (c .if1 .row ≡ repaid share more) × (c .if1 .p ≡ repayment share more)
+paid c =
+    let share = c .before .before .before .args .share in
+    ⊎-elim (λ w. (w .3 ∙ w .2 .ensures, w .4 ∙ w .1 .ensures))
+    (λ w.
+    let none = nothing-owed share (c .before .before .gained .result) (sym (c .before .owes .ensures) ∙ w .0 .left) in
+    (w .1 ∙ none .0, w .2 ∙ none .1))
+    (c .if1 .came)
 
 capped-requires : tie.Need-capped-requires
 capped-requires c κs = search needs
@@ -36,12 +51,12 @@ is-due-requires c κs = search needs
 
 returns : tie.Need-returns
 returns c =
-    let repay = c .before .before in
-    let gain = repay .before .before in
-    let a = gain .before .args in
-    settles (a .gain) (a .share) (a .row) (a .waiting) (gain .gained .ensures) (repay .before .repayment .ensures) (repay .repaid .ensures) (c .before .capped .ensures) (c .is-due .ensures)
+    let joined = c .before .before in
+    let g = joined .before .before in
+    let a = g .before .args in
+    settles (a .gain) (a .share) (a .row) (a .waiting) (g .gained .ensures) (paid joined .1) (paid joined .0) (c .before .capped .ensures) (c .is-due .ensures)
 
 pub settle-spec : {M : Type 1} → statement M
 settle-spec =
     tie.close
-    (tie.spec gained-requires repayment-requires repaid-requires capped-requires is-due-requires returns)
+    (tie.spec gained-requires owes-requires repayment-requires repaid-requires capped-requires is-due-requires returns)
