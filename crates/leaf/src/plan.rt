@@ -77,6 +77,10 @@ pub fn target_of(since: Virt, usage: Abs) -> u64
     requires { ⌜ (0 < since .0) × (since .0 ≤ sinceMost) ⌝ }
     ensures { λ r. ⌜ r ≡ targetOf since usage ⌝ }
 {
+    // Of no usage u is 0, so that nothing is divided.
+    if usage.0 == 0 {
+        return Controller::SHARE_FLOOR;
+    }
     let used = used_share(since, usage);
     let target = used + used / 4;
     if target < Controller::SHARE_FLOOR {

@@ -1,6 +1,6 @@
--- `leaf::plan::target_of` meets its contract: a leaf used the whole share at most, so a quarter more fits.
+-- `leaf::plan::target_of` meets its contract: a leaf used the whole share at most, so a quarter more fits, and with no usage none of it.
 -- Assumes nothing.
-use mathlib.Core.Path.{_≡_}
+use mathlib.Core.Path.{_≡_, refl}
 use Prim.Native.Nat.{ℕ, _+_, _/_, _≤_, _<_}
 use native.Mathlib.Omega.{arith}
 use Rattle.rules.specs.Numbers.{WHOLE, shareFloor}
@@ -25,23 +25,35 @@ module _ (since : Virt) (usage : Abs) {used : ℕ} (e : used ≡ usedShare since
   unfolding targetOf
   not-floored high = rw (← e) (omega arith)
 
+  -- of no usage
+  unused : 0 < since .0 → usage .0 ≡ 0 → shareFloor ≡ targetOf since usage
+  unfolding usedShare
+  unused some none =
+      let nothing : used ≤ 0 = rw e (ceil-least _ (since .0) 0 some (omega arith)) in
+      floored (omega arith)
+
+returns : tie.Need-returns
+returns c =
+    let at = c .before .before in
+    unused (at .args .since) (at .args .usage) refl (at .pre .0) (c .if1 .taken)
+
 used-share-requires : tie.Need-used-share-requires
 used-share-requires c κs = search needs
 
 add-target : tie.Need-add-target
 add-target c =
-    let a = c .before .args in
-    omega (arith, within-the-whole (a .since) (a .usage) (c .used-share .ensures) (c .before .pre .0))
-
-returns : tie.Need-returns
-returns c =
-    let a = c .before .before .args in
-    floored (a .since) (a .usage) (c .before .used-share .ensures) (c .if1 .taken)
+    let at = c .before .before .before in
+    omega (arith, within-the-whole (at .args .since) (at .args .usage) (c .used-share .ensures) (at .pre .0))
 
 returns-2 : tie.Need-returns-2
 returns-2 c =
-    let a = c .before .before .args in
-    not-floored (a .since) (a .usage) (c .before .used-share .ensures) (c .if1 .left)
+    let a = c .before .before .before .before .args in
+    floored (a .since) (a .usage) (c .before .used-share .ensures) (c .if2 .taken)
+
+returns-3 : tie.Need-returns-3
+returns-3 c =
+    let a = c .before .before .before .before .args in
+    not-floored (a .since) (a .usage) (c .before .used-share .ensures) (c .if2 .left)
 
 pub target-of-spec : {M : Type 1} → statement M
-target-of-spec = tie.close (tie.spec used-share-requires add-target returns returns-2)
+target-of-spec = tie.close (tie.spec returns used-share-requires add-target returns-2 returns-3)
