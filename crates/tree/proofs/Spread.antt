@@ -6,7 +6,7 @@ use mathlib.Core.List.{List}
 use Prim.Native.Nat.{ℕ, _^_, _≤_, _<_}
 use native.Mathlib.Omega.{arith}
 use lib.Dec.{eqb, ltb}
-use lib.ListN.{set, replicate, length-replicate, getD-replicate}
+use lib.ListN.{getD, set, replicate, length-replicate, getD-replicate}
 use lib.Seq.{ext-getD}
 use borrow.Author.Tests.{eqb-true, eqb-false, lt-ltb, le-ltb}
 use Rattle.rules.specs.Numbers.{WHOLE, nodesMost, shareFloor}
@@ -23,7 +23,7 @@ use Rattle.rules.specs.Laws.Shares.{base-share-is}
 use Rattle.sets.specs.Lowest.{Lowest}
 use Rattle.sets.specs.Visit.{LeftOf}
 use Rattle.tree.specs.View.{leavesIn, Lit}
-use Rattle.tree.proofs.Lit.{leaves-back, lit-here}
+use Rattle.tree.proofs.Lit.{leaves-back, lit-here, Child}
 
 -- ---- a leaf of the set is asked for its share
 module _ {t : Tree} (sound : SoundTree t) (active : ℕ) (within : Within t active) (fits : active < 2 ^ nodesMost)
@@ -33,6 +33,14 @@ module _ {t : Tree} (sound : SoundTree t) (active : ℕ) (within : Within t acti
 
   pub leaf-asks : n < nodesMost → Lit t nodes × (has nodes n ≡ true)
   leaf-asks l = (lit-here sound active within fits all, rw all (has-setOf (isActive t active) n l ∙ is-active))
+
+  pub leaf-child : n < nodesMost → {q : ℕ} → q ≡ getD (t .parents) n 0 → Child (t .count) (t .parents) (t .weights) nodes n q
+  leaf-child l e = record {
+    lit = leaf-asks l .0;
+    on = leaf-asks l .1;
+    below = λ z. omega (arith, leaf-pos t n (within n on));
+    is = e;
+  }
 
   pub leaf-share : {r : ℕ} → r ≡ shareOf t (leavesIn t nodes) n → r ≡ shareOf t active n
   leaf-share e = rw (leaves-back sound active within fits all) at e

@@ -78,9 +78,20 @@ pub fn base_shares(tree: Tree, active: u64) -> [u32; 64]
     let nodes = active_nodes(&tree.parents, count, active);
     let mut shares = [0u32; 64];
     let mut left = active;
+    // Leaves that follow each other often have one parent: its share and the sum over its active children are kept, and
+    // worked out anew only where the parent changes. The first that is kept is the root.
+    let mut parent: usize = 0;
+    let mut above = Controller::WHOLE;
+    let mut sum = child_sum(&tree.parents, &tree.weights, count, nodes, parent);
     while left != 0 {
         let leaf = lowest(left);
-        shares[leaf] = share_of(&tree.parents, &tree.weights, count, nodes, leaf) as u32;
+        let over = wide(tree.parents[leaf]);
+        if over != parent {
+            parent = over;
+            above = share_of(&tree.parents, &tree.weights, count, nodes, parent);
+            sum = child_sum(&tree.parents, &tree.weights, count, nodes, parent);
+        }
+        shares[leaf] = portion(above, heavy(tree.weights[leaf]), sum) as u32;
         left = remove(left, leaf);
     }
     shares
