@@ -9,7 +9,7 @@ use Rattle.rules.specs.Numbers.{queueRoom, nodesMost, vrateFresh}
 use Rattle.rules.specs.Words.{table, has, setOf, noNode}
 use Rattle.rules.specs.Units.{abs, virt, FLOOR, relative}
 use Rattle.rules.specs.Cost.{costOf, endOf, isForced}
-use Rattle.rules.specs.Tree.{leavesOf, baseShares}
+use Rattle.rules.specs.Tree.{leavesOf, baseShares, withWeight}
 use Rattle.rules.specs.declared.units.Abs.{Abs}
 use Rattle.rules.specs.declared.units.Virt.{Virt}
 use Rattle.rules.specs.declared.cost.Model.{Model}
@@ -66,6 +66,19 @@ withClock clock c = record {
   tree = c .tree;
   model = c .model;
   clock = clock;
+  leaves = c .leaves;
+  active = c .active;
+  donors = c .donors;
+  shares = c .shares;
+  rows = c .rows;
+  queues = c .queues;
+}
+
+abbrev pub withTree : Tree → Controller → Controller
+withTree tree c = record {
+  tree = tree;
+  model = c .model;
+  clock = c .clock;
   leaves = c .leaves;
   active = c .active;
   donors = c .donors;
@@ -184,6 +197,11 @@ reshared active donors shares c =
 -- a donation ends and base shares are worked out anew: no donor, and base shares among the active leaves
 unfoldable pub rebased : ℕ → Controller → Controller
 rebased active c = reshared active noNode (baseShares (c .tree) active) c
+
+-- ---- request One: "sets one node's weight .. any donation ends, base shares are worked out anew among the active leaves, and
+-- budgets follow the rule for rising shares", from the share held before
+unfoldable pub reweighted : ℕ → ℕ → Controller → Controller
+reweighted n w c = rebased (c .active) (withTree (withWeight n w (c .tree)) c)
 
 -- ---- "Submitting a bio that is not refused:"
 -- "1. An inactive leaf becomes active .."

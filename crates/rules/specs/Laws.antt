@@ -13,6 +13,7 @@ pub mod Donation
 pub mod Refusals
 pub mod Passes
 pub mod Resharing
+pub mod Weights
 pub mod Queues
 pub mod Plans
 pub mod Rows

@@ -4,7 +4,7 @@ use mathlib.Core.Bool.{Bool, cond, not, _&&_, _||_}
 use mathlib.Core.List.{List}
 use Prim.Native.Nat.{ℕ, zero, suc, _-_, _*_}
 use lib.Dec.{eqb, leb, ltb}
-use lib.ListN.{getD}
+use lib.ListN.{getD, set}
 use Rattle.rules.specs.Numbers.{WHOLE, nodesLeast, nodesMost, weightLeast, weightMost, levelMost, shareFloor}
 use Rattle.rules.specs.Words.{sumTo, anyTo, table, has, setOf}
 use Rattle.rules.specs.Units.{FLOOR}
@@ -109,3 +109,10 @@ baseShares t active = table (baseShare t active)
 -- "A tree is thin if .."
 unfoldable pub isThin : Tree → Bool
 isThin t = anyTo (λ n. isLeaf t n && ltb (shareOf t (leavesOf t) n) shareFloor) (last t)
+
+-- ---- request One: a node that has a weight, which is neither the root nor absent, and the tree with another weight there
+unfoldable pub isBelowRoot : Tree → ℕ → Bool
+isBelowRoot t n = ltb 0 n && ltb n (t .count)
+
+abbrev pub withWeight : ℕ → ℕ → Tree → Tree
+withWeight n w t = record { count = t .count; parents = t .parents; weights = set (t .weights) n w }
