@@ -1,4 +1,4 @@
--- A chunk on the way: what was printed of it so far, what is left of it, and that the turns counted for it are enough.
+-- A chunk on the way: what was printed of it so far, what is left of it, and that the steps counted for it are enough.
 -- Assumes nothing.
 use mathlib.Core.Path.{_≡_, refl, sym, ap, _∙_}
 use mathlib.Core.Bool.{Bool, true, false, cond}
@@ -29,7 +29,7 @@ use Rattle.rules.specs.declared.replay.Replay.{Replay}
 use Rattle.rules.specs.declared.replay.Pause.{Pause}
 use Rattle.rules.specs.declared.replay.Ran.{Ran}
 
--- ---- one turn of a part
+-- ---- one step of a part
 module _ (f : ℕ) (last : Bool) (trace : List ℕ) (room at : ℕ) (s : Replay) where
   part-halts : halts last (readAt trace at) room s ≡ true → partFrom (suc f) last trace room at s ≡ nothing at s
   unfolding partFrom
@@ -58,20 +58,20 @@ unhalted last read room s e =
       wide = ltb-false room lineRoom (or-not-right (isEnd read) _ here);
     }
 
--- ---- the loop over a chunk: these bytes were printed, and what follows them is what these turns and one more make of the rest.
--- A replay that has not stopped has a turn for each byte that is left, so the one more is there to halt in.
+-- ---- the loop over a chunk: these bytes were printed, and what follows them is what these steps and one more make of the rest.
+-- A replay that has not stopped has a step for each byte that is left, so the one more is there to halt in.
 pub record Feeding (last : Bool) (trace : List ℕ) (place : ℕ) (s₀ : Replay) (o₀ o : List ℕ) (at count : ℕ) (read : Read)
     (phase : Phase) (s : Replay) : Type 0 where
-  pub turns : ℕ
+  pub steps : ℕ
   pub bytes : List ℕ
   pub front : Stands bytes o₀ o count
-  pub all : part last trace (length o₀) place s₀ ≡ printedBefore bytes (partFrom (suc turns) last trace (length o₀ - count) at s)
-  pub enough : isStopped (s .phase) ≡ false → (1 ≤ turns) × (1 + length trace ≤ at + turns)
+  pub all : part last trace (length o₀) place s₀ ≡ printedBefore bytes (partFrom (suc steps) last trace (length o₀ - count) at s)
+  pub enough : isStopped (s .phase) ≡ false → (1 ≤ steps) × (1 + length trace ≤ at + steps)
   pub plays : Playing s
   pub found : read ≡ readAt trace at
   pub same : s .phase ≡ phase
 
--- it falls with each turn
+-- it falls with each step
 abbrev pub left : List ℕ → ℕ → Phase → ℕ
 left trace at phase = cond (isStopped phase) 0 (suc (length trace - at))
 
@@ -80,7 +80,7 @@ pub begun : (last : Bool) (trace : List ℕ) (place : ℕ) (s : Replay) (o : Lis
     → Feeding last trace place s o o place 0 read (s .phase) s
 unfolding part
 begun last trace place s o read plays found = record {
-  turns = suc (length trace);
+  steps = suc (length trace);
   bytes = [];
   front = stands-none o;
   all = let e : 2 + length trace ≡ suc (suc (length trace)) = omega arith in rw (e, sub-zero);
@@ -118,26 +118,26 @@ module _ {last : Bool} {trace : List ℕ} {place : ℕ} {s₀ : Replay} {o₀ o 
         go (stops f) = absurd (true-not-false (rw step-is at f) e)
         go (ends f) = absurd (true-not-false refl (rw (v .found, f) at (known .there)))
 
-    more : (g : ℕ) → v .turns ≡ suc g
+    more : (g : ℕ) → v .steps ≡ suc g
         → part last trace (length o₀) place s₀
         ≡ printedBefore (v .bytes ++ readStep read s .bytes)
         (partFrom (suc g) last trace (length o₀ - (count + length (readStep read s .bytes))) (nextPlace read at)
         (readStep read s .replay))
     more g e =
-        v .all ∙ ap (printedBefore (v .bytes)) (part-goes (v .turns) last trace (length o₀ - count) at s (told false goes))
+        v .all ∙ ap (printedBefore (v .bytes)) (part-goes (v .steps) last trace (length o₀ - count) at s (told false goes))
         ∙ rw (e, step-is, ← v .found, ← sub-add-eq, append-assoc)
 
     module _ {r : ℕ} {after : Replay} {ys : List ℕ} (kept : length ys ≡ length (restOf o count))
         (does : DoesStep (readStep read s) r after (restOf o count) ys) where
       pub steps-on : {at' : ℕ} {read' : Read} → at' ≡ nextPlace read at → read' ≡ readAt trace at'
           → Feeding last trace place s₀ o₀ (putBack o count ys) at' (count + r) read' (after .phase) after
-      steps-on {at'} {read'} to found = go (v .turns) refl (v .enough (known .on))
+      steps-on {at'} {read'} to found = go (v .steps) refl (v .enough (known .on))
         where
-          go : (f : ℕ) → v .turns ≡ f → (1 ≤ f) × (1 + length trace ≤ at + f)
+          go : (f : ℕ) → v .steps ≡ f → (1 ≤ f) × (1 + length trace ≤ at + f)
               → Feeding last trace place s₀ o₀ (putBack o count ys) at' (count + r) read' (after .phase) after
           go zero e few = absurd (omega (arith, few .0))
           go (suc g) e few = record {
-            turns = g;
+            steps = g;
             bytes = v .bytes ++ readStep read s .bytes;
             front = stands-more (v .front) (readStep read s .bytes) ys r (does .0) (stands-fits (v .front) (readStep read s .bytes) ys r (does .0) kept);
             all = rw (to, does .1, does .0 .0) (more g e);
@@ -155,7 +155,7 @@ module _ {last : Bool} {trace : List ℕ} {place : ℕ} {s₀ : Replay} {o₀ o 
           go true e = omega arith
           go false e = let m = moves e in omega (arith, m .0, m .1)
 
-    -- calls by the run: they are the next turns of the part
+    -- calls by the run: they are the next steps of the part
     module _ {b : Bool} (f : b ≡ runs phase read) (t : b ≡ true) (n : ℕ) where
       on : runs (s .phase) read ≡ true
       on = rw (v .same) (sym f ∙ t)
@@ -171,18 +171,18 @@ module _ {last : Bool} {trace : List ℕ} {place : ℕ} {s₀ : Replay} {o₀ o 
       abbrev here : Run
       here = runFrom n trace (length (restOf o count)) at (s .state)
 
-      continues : Continues last trace (v .turns) (length (restOf o count)) at s here
-      continues = run-continues last trace n (v .turns) (length (restOf o count)) at s awake (v .enough (known .on))
+      continues : Continues last trace (v .steps) (length (restOf o count)) at s here
+      continues = run-continues last trace n (v .steps) (length (restOf o count)) at s awake (v .enough (known .on))
 
       module _ {r : Ran} {ys : List ℕ} (kept : length ys ≡ length (restOf o count)) (ran : RanAs here r (restOf o count) ys) where
-        pub run-turn : {read' : Read} → read' ≡ readAt trace (r .place)
+        pub run-steps : {read' : Read} → read' ≡ readAt trace (r .place)
             → Feeding last trace place s₀ o₀ (putBack o count ys) (r .place) (count + r .count) read' phase (holding s (r .state))
-        run-turn found = record {
-          turns = continues .turns;
+        run-steps found = record {
+          steps = continues .steps;
           bytes = v .bytes ++ here .bytes;
           front = stands-more (v .front) (here .bytes) ys (r .count) (ran .lines) (stands-fits (v .front) (here .bytes) ys (r .count) (ran .lines) kept);
           all =
-              v .all ∙ ap (printedBefore (v .bytes)) (ap (λ (room : ℕ). partFrom (suc (v .turns)) last trace room at s) (sym (stands-rest (v .front))) ∙ continues .all)
+              v .all ∙ ap (printedBefore (v .bytes)) (ap (λ (room : ℕ). partFrom (suc (v .steps)) last trace room at s) (sym (stands-rest (v .front))) ∙ continues .all)
               ∙ rw (ran .place, ran .state, ran .lines .0, sub-add-eq, ← stands-rest (v .front), append-assoc);
           enough = λ e. rw (ran .place) (continues .enough);
           plays = record {
@@ -203,7 +203,7 @@ module _ {last : Bool} {trace : List ℕ} {place : ℕ} {s₀ : Replay} {o₀ o 
 
   module _ (halted : halts last read (length o - count) s ≡ true) where
     ended : part last trace (length o₀) place s₀ ≡ printedBefore (v .bytes) (nothing at s)
-    ended = v .all ∙ ap (printedBefore (v .bytes)) (part-halts (v .turns) last trace (length o₀ - count) at s (told true halted))
+    ended = v .all ∙ ap (printedBefore (v .bytes)) (part-halts (v .steps) last trace (length o₀ - count) at s (told true halted))
 
     pub feeds : (pause : Pause) → pause ≡ pauseOf last read s
         → Feeds last trace place s₀ (record { pause = pause; place = at; count = count; replay = s }) o₀ o

@@ -36,7 +36,7 @@ laid-on xs ys at l h =
     (rw so-far at (drop-append-add before after (length ys))) ∙ drop-drop (length ys) (at + length xs) l in
     rw (← append-assoc (take at l) xs after, kept, past, length-append, ← add-assoc) (simp append-assoc)
 
--- one turn of `put`: the number's next byte
+-- one pass of `put`: the number's next byte
 pub laid-byte : (n i at : ℕ) (l : List ℕ) → at + i < length l
     → set (laid (bytesOf i n) at l) (at + i) ((n / 256 ^ i) % 256) ≡ laid (bytesOf (i + 1) n) at l
 laid-byte n i at l h =

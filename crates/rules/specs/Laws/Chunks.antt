@@ -98,20 +98,20 @@ on-or-silent {P} trace place s on silence = go (after-a-step trace place s)
     go (stops e) = silence (λ f. stopped-is-silent f trace _ _ e)
     go (ends e) = silence (λ f. rw (e, end-steps s) (end-is-silent f trace place s e))
 
--- so as many turns as there are bytes left are enough: more change nothing
-pub enough-turns : (f g : ℕ) (trace : List ℕ) (place : ℕ) (s : Replay) → length trace ≤ place + f → length trace ≤ place + g
+-- so as many steps as there are bytes left are enough: more change nothing
+pub enough-steps : (f g : ℕ) (trace : List ℕ) (place : ℕ) (s : Replay) → length trace ≤ place + f → length trace ≤ place + g
     → replayFrom f trace place s ≡ replayFrom g trace place s
-enough-turns zero zero trace place s p q = refl
-enough-turns zero (suc g) trace place s p q =
+enough-steps zero zero trace place s p q = refl
+enough-steps zero (suc g) trace place s p q =
     rw (replays-one trace place s, replays-on g trace place s)
     (on-or-silent trace place s (λ a b. absurd (omega arith)) (λ silent. rw (silent g, append-nil)))
-enough-turns (suc f) zero trace place s p q =
+enough-steps (suc f) zero trace place s p q =
     rw (replays-one trace place s, replays-on f trace place s)
     (on-or-silent trace place s (λ a b. absurd (omega arith)) (λ silent. rw (silent f, append-nil)))
-enough-turns (suc f) (suc g) trace place s p q =
+enough-steps (suc f) (suc g) trace place s p q =
     rw (replays-on f trace place s, replays-on g trace place s)
     (on-or-silent trace place s
-    (λ a b. rw (enough-turns f g trace (nextAt trace place) (stepAt trace place s .replay) (omega arith) (omega arith)))
+    (λ a b. rw (enough-steps f g trace (nextAt trace place) (stepAt trace place s .replay) (omega arith) (omega arith)))
     (λ silent. rw (silent f, silent g)))
 
 abbrev pub rest : List ℕ → ℕ → Replay → List ℕ
@@ -120,9 +120,9 @@ rest trace place s = replayFrom (length trace) trace place s
 rest-steps : (trace : List ℕ) (place : ℕ) (s : Replay)
     → rest trace place s ≡ stepAt trace place s .bytes ++ rest trace (nextAt trace place) (stepAt trace place s .replay)
 rest-steps trace place s =
-    enough-turns (length trace) (suc (length trace)) trace place s (omega arith) (omega arith) ∙ replays-on (length trace) trace place s
+    enough-steps (length trace) (suc (length trace)) trace place s (omega arith) (omega arith) ∙ replays-on (length trace) trace place s
 
--- ---- a part is no step, or one step and a part with a turn less: what such steps keep holds of every part
+-- ---- a part is no step, or one step and a part with a step less: what such steps keep holds of every part
 module _ (last : Bool) (here : List ℕ) where
   pub by-steps : (P : ℕ → ℕ → ℕ → Replay → Part → Type 0)
       → ((room place : ℕ) (s : Replay) → P 0 room place s (nothing place s))
@@ -229,29 +229,29 @@ over-is-whole trace room e =
     ∙ rw (over-is-silent true trace trace (λ place w. refl) (p .place) (p .replay) e, append-nil))
 
 -- ---- a part goes as far as it can
--- the turns suffice: the replay has stopped, or there are more of them than bytes left
+-- the steps suffice: the replay has stopped, or there are more of them than bytes left
 abbrev pub Suffices : ℕ → List ℕ → ℕ → Replay → Type 0
 Suffices f here place s = (isStopped (s .phase) ≡ true) ⊎ ((0 < f) × (length here < place + f))
 
 pub suffices-on : (here : List ℕ) (f place : ℕ) (s : Replay) → Suffices f here place s
     → Suffices f here (nextAt here place) (stepAt here place s .replay)
 suffices-on here f place s (inl stopped) = inl (rw (stopped-steps (readAt here place) s stopped) stopped)
-suffices-on here f place s (inr turns) = go (after-a-step here place s)
+suffices-on here f place s (inr steps) = go (after-a-step here place s)
   where
     go : AfterStep here place s → Suffices f here (nextAt here place) (stepAt here place s .replay)
-    go (goes-on a b) = inr (turns .0, omega (arith, turns .1))
+    go (goes-on a b) = inr (steps .0, omega (arith, steps .1))
     go (stops d) = inl d
-    go (ends d) = inr (turns .0, rw d (turns .1))
+    go (ends d) = inr (steps .0, rw d (steps .1))
 
 module _ (last : Bool) (here : List ℕ) where
   pub still-suffices : (f room place : ℕ) (s : Replay) → halts last (readAt here place) room s ≡ false → Suffices (suc f) here place s
       → Suffices f here (nextAt here place) (stepAt here place s .replay)
   unfolding isEnd
   still-suffices f room place s e (inl stopped) = absurd (true-not-false stopped (moves-when last (readAt here place) room s e .0))
-  still-suffices f room place s e (inr turns) = go (after-a-step here place s)
+  still-suffices f room place s e (inr steps) = go (after-a-step here place s)
     where
       go : AfterStep here place s → Suffices f here (nextAt here place) (stepAt here place s .replay)
-      go (goes-on a b) = inr (omega (arith, turns .1), omega (arith, turns .1))
+      go (goes-on a b) = inr (omega (arith, steps .1), omega (arith, steps .1))
       go (stops d) = inl d
       go (ends d) = absurd (true-not-false (ap isEnd d) (moves-when last (readAt here place) room s e .2))
 
@@ -262,7 +262,7 @@ module _ (last : Bool) (here : List ℕ) where
   part-halts =
       by-steps last here
       (λ f room place s p. Suffices f here place s → halts last (readAt here (p .place)) (room - length (p .bytes)) (p .replay) ≡ true)
-      (λ room place s h. ⊎-elim (λ e. or-left _ _ e) (λ turns. absurd (omega (arith, turns .0))) h)
+      (λ room place s h. ⊎-elim (λ e. or-left _ _ e) (λ steps. absurd (omega (arith, steps .0))) h)
       (λ f room place s e h. rw sub-zero e)
       (λ f room place s p e on h. rw (length-append, sub-add-eq) (on (still-suffices f room place s e h)))
 

@@ -16,7 +16,7 @@ use Rattle.rules.specs.Replay.{isStopped, beginning, readStep, nextPlace
 use Rattle.rules.specs.Chunks.{isEnd, isCut, wantsBytes, halts, pauseOf, part}
 use Rattle.rules.specs.Laws.Bools.{true-not-false, and-swap, or-left}
 use Rattle.rules.specs.Laws.Pieces.{same-with-more, shifted, shifted-with-less}
-use Rattle.rules.specs.Laws.Chunks.{replays-one, replays-on, enough-turns, rest, by-steps, part-inside, part-prints, over-is-silent, Suffices, suffices-on, still-suffices}
+use Rattle.rules.specs.Laws.Chunks.{replays-one, replays-on, enough-steps, rest, by-steps, part-inside, part-prints, over-is-silent, Suffices, suffices-on, still-suffices}
 use Rattle.rules.specs.declared.trace.Read.{Read}
 use Rattle.rules.specs.declared.trace.Read.the-variants.{Found, End, Refused as Unread}
 use Rattle.rules.specs.declared.replay.Replay.{Replay}
@@ -52,7 +52,7 @@ module _ (trace : List ℕ) (k : ℕ) (h : k ≤ length trace) where
   pub rest-shifted : (at : ℕ) (s : Replay) → rest (drop k trace) at s ≡ rest trace (k + at) s
   rest-shifted at s =
       replays-shifted (length (drop k trace)) at s
-      ∙ enough-turns (length (drop k trace)) (length trace) trace (k + at) s (rw length-drop (omega arith)) (omega arith)
+      ∙ enough-steps (length (drop k trace)) (length trace) trace (k + at) s (rw length-drop (omega arith)) (omega arith)
 
 -- ---- any cutting
 -- a program that keeps a replay, the bytes `here` that it has read and not dropped, and a place in them, with the bytes of
@@ -85,7 +85,7 @@ over-if-halted read s e = go (isStopped (s .phase)) (isCut read) (isEnd read) e
     go false false false h = absurd (true-not-false h refl)
 
 module _ (here : List ℕ) where
-  -- a part that goes on takes a turn at least
+  -- a part that goes on takes a step at least
   part-suffices : (room place : ℕ) (s : Replay) → halts true (readAt here place) room s ≡ false → (n : ℕ) → Suffices (suc n) here place s
       → Suffices n here (part true here room place s .place) (part true here room place s .replay)
   unfolding part
@@ -104,7 +104,7 @@ module _ (here : List ℕ) where
   unfolding halts
   plays-out zero place s (inl stopped) =
       ([], over true (λ e. refl) (over-if-halted (readAt here place) s (or-left (isStopped (s .phase)) _ stopped)))
-  plays-out zero place s (inr turns) = absurd (omega (arith, turns .0))
+  plays-out zero place s (inr steps) = absurd (omega (arith, steps .0))
   plays-out (suc n) place s h =
       go (halts true (readAt here place) lineRoom s) refl (λ e. plays-out n _ _ (part-suffices lineRoom place s e n h))
     where

@@ -1,4 +1,4 @@
--- Calls in a row are steps of a part, one after the other: what they print and where they end is what the part's turns do.
+-- Calls in a row are steps of a part, one after the other: what they print and where they end is what the part's steps do.
 -- Assumes nothing.
 use mathlib.Core.Path.{_≡_, refl, ap, _∙_}
 use mathlib.Core.Bool.{Bool, true, false, cond, _&&_}
@@ -147,17 +147,17 @@ module _ (trace : List ℕ) where
       run-inside (n - 1) (room - length (calling (callAt place) c .bytes)) (nextAt trace place) (calling (callAt place) c .state) (m .1) in
       rw (run-goes n room place c h e l) (omega (arith, m .0, i .0), i .1)
 
--- ---- a run is the next turns of a part
+-- ---- a run is the next steps of a part
 module _ (last : Bool) (trace : List ℕ) where
-  -- the turns that a part has left are enough for what is left of its trace
+  -- the steps that a part has left are enough for what is left of its trace
   abbrev pub Enough : ℕ → ℕ → Type 0
-  Enough turns place = (1 ≤ turns) × (1 + length trace ≤ place + turns)
+  Enough steps place = (1 ≤ steps) × (1 + length trace ≤ place + steps)
 
   pub record Continues (f room place : ℕ) (s : Replay) (r : Run) : Type 0 where
-    pub turns : ℕ
+    pub steps : ℕ
     pub all : partFrom (suc f) last trace room place s
-        ≡ printedBefore (r .bytes) (partFrom (suc turns) last trace (room - length (r .bytes)) (r .place) (holding s (r .state)))
-    pub enough : Enough turns (r .place)
+        ≡ printedBefore (r .bytes) (partFrom (suc steps) last trace (room - length (r .bytes)) (r .place) (holding s (r .state)))
+    pub enough : Enough steps (r .place)
 
   call-goes : (f room place : ℕ) (s : Replay) → runs (s .phase) (readAt trace place) ≡ true → lineRoom ≤ room
       → partFrom (suc f) last trace room place s
@@ -169,7 +169,7 @@ module _ (last : Bool) (trace : List ℕ) where
 
   -- no call more: the part is where it was
   stays-on : (f room place : ℕ) (s : Replay) → Enough f place → Continues f room place s (still place (s .state))
-  stays-on f room place s enough = record { turns = f; all = rw sub-zero; enough = enough }
+  stays-on f room place s enough = record { steps = f; all = rw sub-zero; enough = enough }
 
   pub run-continues : (n f room place : ℕ) (s : Replay) → isRunning (s .phase) ≡ true → Enough f place
       → Continues f room place s (runFrom n trace room place (s .state))
@@ -193,7 +193,7 @@ module _ (last : Bool) (trace : List ℕ) where
           let k = next f (omega (arith, m .1, h .1, m .0), omega (arith, m .0, h .1)) in
           let both : runs (s .phase) (readAt trace place) ≡ true = rw (on, e) in
           record {
-            turns = k .turns;
+            steps = k .steps;
             all = call-goes (suc f) room place (holding s c) both l ∙ rw (k .all, append-assoc, length-append, sub-add-eq);
             enough = k .enough;
           }

@@ -27,7 +27,7 @@ mul-cost c = search needs
 element-copy-out-cost : tie.Need-element-copy-out-cost Inv-loop μ-loop
 element-copy-out-cost c = search needs
 
--- the queue as it is before a turn of the loop
+-- the queue as it is before a pass of the loop
 abbrev here : tie.At-loop Inv-loop μ-loop → Queue
 here at = cut (at .before .before .args .t3) (at .loop .head) (at .loop .len)
 

@@ -11,7 +11,7 @@ use denote.Ref.{now}
 use Rattle.rules.specs.Replay.{readStep}
 use Rattle.rules.specs.Chunks.{halts, runFrom}
 use Rattle.rules.specs.Laws.Buffers.{stands-left, stands-kept, stands-fits}
-use Rattle.steps.proofs.Feeding.{Feeding, left, begun, asks-little, steps-on, falls, run-turn, run-falls, feeds}
+use Rattle.steps.proofs.Feeding.{Feeding, left, begun, asks-little, steps-on, falls, run-steps, run-falls, feeds}
 use Rattle.steps.proofs.Records.{no-run}
 use Rattle.steps.proofs.chunk.feed.Statement.{statement}
 use Rattle.steps.proofs.chunk.feed.Tie as tie
@@ -90,7 +90,7 @@ loop-again c =
     let ran = c .before .before .before .before .before in
     let called = ran .before .before .before in
     let tested = called .before in
-    run-turn (tested .before .before .loop .inv) (goes-at tested) (called .runs .ensures) (ran .before .before .if2 .taken) _ (ran .run .kept .1 .1 .1 .1 .0) (ran .run .ensures)
+    run-steps (tested .before .before .loop .inv) (goes-at tested) (called .runs .ensures) (ran .before .before .if2 .taken) _ (ran .run .kept .1 .1 .1 .1 .0) (ran .run .ensures)
     (c .read-from2 .ensures .0)
 
 sub-follow : tie.Need-sub-follow Inv-loop μ-loop
