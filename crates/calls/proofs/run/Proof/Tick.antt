@@ -1,0 +1,278 @@
+-- `calls::run` at a tick.
+-- Assumes nothing.
+use mathlib.Core.Path.{_≡_, refl, sym, ap, subst, _∙_}
+use mathlib.Core.List.{List, _++_}
+use mathlib.Core.Logic.{⊎-elim}
+use Prim.Native.Nat.{ℕ, _+_, _-_, _≤_}
+use native.Mathlib.Omega.{arith}
+use lib.ListN.{length, getD, take, drop}
+use borrow.Author.Needs.{needs}
+use Rattle.rules.specs.Tick.{advanced, lentAfter, waitingAll}
+use Rattle.rules.specs.Refusals.{firstOf, tickChecks}
+use Rattle.rules.specs.Entries.{ticked, lentOf}
+use Rattle.rules.specs.Invariant.{Sound, TickPasses}
+use Rattle.rules.specs.Replay.{allRoom, tickLines}
+use Rattle.rules.specs.Buffers.{restOf, putBack}
+use Rattle.rules.specs.Laws.Buffers.{stands-left, stands-kept}
+use Rattle.rules.specs.Laws.Passes.{tick-passes}
+use Rattle.rules.specs.Laws.States.{waiting-small}
+use Rattle.rules.specs.declared.budget.Controller.{Controller}
+use Rattle.rules.specs.declared.budget.Ticked.{Ticked}
+use Rattle.rules.specs.declared.refusals.Verdict.the-variants.{Accepted}
+use Rattle.sets.specs.Visit.{less-left}
+use Rattle.leaf.specs.Alone.{lengthOnly}
+use Rattle.leaf.specs.Fit.{gainMost}
+use Rattle.tick.proofs.Clocks.{grown-small}
+use Rattle.tick.proofs.Answers.{clock-refuses, enough-places, refuses, accepts}
+use Rattle.tick.proofs.Going.{same-walking, passing-is-near, begins, row-fits, rests, release-fits, count-fits, goes-on, ends as over}
+use Rattle.calls.proofs.Answered.{can-print, tick-answered}
+use Rattle.calls.proofs.Running.{tick-is-call}
+use Rattle.calls.proofs.run.Tie as tie
+use Rattle.calls.proofs.run.Proof.Turn.{Inv-loop2, μ-loop2, Inv-loop, μ-loop, Turn, head, left-at, room-at, less-at, count-at, again-at}
+
+pub enum-known-call-2 : tie.Need-enum-known-call-2 Inv-loop2 μ-loop2 Inv-loop μ-loop
+enum-known-call-2 c = search needs
+
+abbrev pub tick-asked : tie.After-verdict Inv-loop2 μ-loop2 Inv-loop μ-loop → tie.After-call2 Inv-loop2 μ-loop2 Inv-loop μ-loop
+tick-asked v = v .before .before .before
+
+abbrev pub tick-turn : tie.After-verdict Inv-loop2 μ-loop2 Inv-loop μ-loop → Turn
+tick-turn v = tick-asked v .before .before
+
+abbrev pub judged-at : tie.After-growth Inv-loop2 μ-loop2 Inv-loop μ-loop → tie.After-verdict Inv-loop2 μ-loop2 Inv-loop μ-loop
+judged-at g = g .before .before .before
+
+-- all that can wait has a place, so that a tick which the clock passes is accepted
+pub accepted-at : (c : tie.After-enum-told4 Inv-loop2 μ-loop2 Inv-loop μ-loop) → let v = c .before .before in
+    firstOf (tickChecks (tick-asked v .call2 .given .0 .0) (length allRoom) (head (tick-turn v) .loop .c)) ≡ Accepted
+accepted-at c =
+    let v = c .before .before in
+    let room : waitingAll (head (tick-turn v) .loop .c) ≤ 504 = waiting-small (head (tick-turn v) .loop .inv .sound) in
+    enough-places (tick-asked v .call2 .given .0 .0) (length allRoom) (head (tick-turn v) .loop .c) (v .verdict .ensures) (c .enum-told4 .given .1) refl room
+
+pub passing : (c : tie.After-enum-told4 Inv-loop2 μ-loop2 Inv-loop μ-loop) → let v = c .before .before in
+    TickPasses (tick-asked v .call2 .given .0 .0) (length allRoom) (head (tick-turn v) .loop .c)
+passing c = tick-passes _ _ _ (accepted-at c)
+
+-- by either way the answer, the state and the ids are the tick's
+pub is-ticked : (m : tie.At-match4-came Inv-loop2 μ-loop2 Inv-loop μ-loop) → let v = m .before in let time = tick-asked v .call2 .given .0 .0 in let d = head (tick-turn v) .loop .c in
+    (_≡_ {A = Ticked} (record { answer = m .match4 .answer; state = m .match4 .c }) (ticked time allRoom d)) × (m .match4 .ids ≡ lentOf time allRoom d)
+is-ticked m =
+    let v = m .before in
+    let time = tick-asked v .call2 .given .0 .0 in
+    let d = head (tick-turn v) .loop .c in
+    let sound = head (tick-turn v) .loop .inv .sound in
+    ⊎-elim
+    (λ w.
+    rw (w .6, w .7, w .8)
+    (accepts time allRoom d (accepted-at (record { before = record { before = v; match4 = w .0 }; enum-told4 = w .1 }))
+    (over sound time (w .2 .ensures) (w .3 .inv) (omega (arith, w .4 .left))
+    (w .5 .ensures ∙ ap (advanced time) (sym (ap (λ (k : Controller). k .clock) (w .3 .inv .going .rest)))))))
+    (λ w.
+    rw (w .3, w .4, w .5) (refuses time allRoom d (clock-refuses time (length allRoom) d (v .verdict .ensures) (w .1 .given .1))))
+    (m .match4 .came)
+
+pub verdict-requires : tie.Need-verdict-requires Inv-loop2 μ-loop2 Inv-loop μ-loop
+verdict-requires c κs = head (c .before .before .before .before) .loop .inv .sound .clock
+
+pub enum-told-4 : tie.Need-enum-told-4 Inv-loop2 μ-loop2 Inv-loop μ-loop
+enum-told-4 c = search needs
+
+pub growth-requires : tie.Need-growth-requires Inv-loop2 μ-loop2 Inv-loop μ-loop
+growth-requires c κs = passing-is-near (head (tick-turn (c .before .before)) .loop .inv .sound) (passing c)
+
+pub loop2-holds : tie.Need-loop2-holds Inv-loop2 μ-loop2 Inv-loop μ-loop
+loop2-holds c = begins (head (tick-turn (judged-at c)) .loop .inv .sound) (c .growth .result) _
+
+-- where a leaf's turn begins
+abbrev pub walk-at : tie.After-lowest Inv-loop2 μ-loop2 Inv-loop μ-loop → tie.At-loop2 Inv-loop2 μ-loop2 Inv-loop μ-loop
+walk-at n = n .before .before
+
+pub sound-at : (l : tie.At-loop2 Inv-loop2 μ-loop2 Inv-loop μ-loop) → Sound (head (tick-turn (judged-at (l .before))) .loop .c)
+sound-at l = head (tick-turn (judged-at (l .before))) .loop .inv .sound
+
+pub gain-small : (l : tie.At-loop2 Inv-loop2 μ-loop2 Inv-loop μ-loop) → l .before .growth .result .0 ≤ gainMost
+gain-small l = grown-small (passing-is-near (sound-at l) (passing (l .before .before))) (l .before .growth .ensures)
+
+-- the buffer has 504 places, and what is lent of it and comes back is counted by that
+pub ids-long : (l : tie.At-loop2 Inv-loop2 μ-loop2 Inv-loop μ-loop) → length (l .loop2 .ids) ≡ 504
+ids-long l = stands-kept (l .loop2 .inv .going .front)
+
+pub stands-at : (l : tie.At-loop2 Inv-loop2 μ-loop2 Inv-loop μ-loop) → l .loop2 .done ≤ 504
+stands-at l = omega (arith, ids-long l, stands-left (l .loop2 .inv .going .front))
+
+pub rest-at : (l : tie.At-loop2 Inv-loop2 μ-loop2 Inv-loop μ-loop) → restOf (l .loop2 .ids) (l .loop2 .done) ≡ take (504 - l .loop2 .done) (drop (l .loop2 .done) (l .loop2 .ids))
+rest-at l = ap (λ (k : ℕ). take (k - l .loop2 .done) (drop (l .loop2 .done) (l .loop2 .ids))) (ids-long l)
+
+pub back-at : (l : tie.At-loop2 Inv-loop2 μ-loop2 Inv-loop μ-loop) {ys xs zs : List ℕ} → ys ≡ xs
+    → zs ≡ take (l .loop2 .done) (l .loop2 .ids) ++ (ys ++ drop (504 - l .loop2 .done) (drop (l .loop2 .done) (l .loop2 .ids))) → zs ≡ putBack (l .loop2 .ids) (l .loop2 .done) ys
+back-at l {ys} e z =
+    z ∙ ap (λ (k : ℕ). take (l .loop2 .done) (l .loop2 .ids) ++ (ys ++ drop (k - l .loop2 .done) (drop (l .loop2 .done) (l .loop2 .ids)))) (sym (ids-long l))
+
+pub lowest-requires : tie.Need-lowest-requires Inv-loop2 μ-loop2 Inv-loop μ-loop
+lowest-requires c κs = search needs
+
+pub mul-wide : tie.Need-mul-wide Inv-loop2 μ-loop2 Inv-loop μ-loop
+mul-wide c = record { fits = omega (arith, c .lowest .ensures .node) }
+
+pub element-copy-out-wide : tie.Need-element-copy-out-wide Inv-loop2 μ-loop2 Inv-loop μ-loop
+element-copy-out-wide c = c .lowest .ensures .node
+
+pub wide-requires : tie.Need-wide-requires Inv-loop2 μ-loop2 Inv-loop μ-loop
+wide-requires c κs = search needs
+
+pub mul-row-2 : tie.Need-mul-row-2 Inv-loop2 μ-loop2 Inv-loop μ-loop
+mul-row-2 c = record { fits = omega (arith, c .before .before .lowest .ensures .node) }
+
+pub element-copy-out-row-2 : tie.Need-element-copy-out-row-2 Inv-loop2 μ-loop2 Inv-loop μ-loop
+element-copy-out-row-2 c = c .before .before .lowest .ensures .node
+
+pub mul-settle : tie.Need-mul-settle Inv-loop2 μ-loop2 Inv-loop μ-loop
+mul-settle c = record { fits = omega (arith, c .before .before .before .lowest .ensures .node) }
+
+pub element-copy-out-settle : tie.Need-element-copy-out-settle Inv-loop2 μ-loop2 Inv-loop μ-loop
+element-copy-out-settle c = c .before .before .before .lowest .ensures .node
+
+pub settle-requires : tie.Need-settle-requires Inv-loop2 μ-loop2 Inv-loop μ-loop
+settle-requires c κs =
+    let node = c .before .before .before in
+    let at = walk-at node in
+    row-fits (sound-at at) (at .before .growth .result) (at .loop2 .inv) (node .lowest .ensures) (c .before .wide .ensures) (gain-small at)
+
+pub mul-queue-3 : tie.Need-mul-queue-3 Inv-loop2 μ-loop2 Inv-loop μ-loop
+mul-queue-3 c = record { fits = omega (arith, c .before .before .before .before .before .before .lowest .ensures .node) }
+
+pub element-copy-out-queue-3 : tie.Need-element-copy-out-queue-3 Inv-loop2 μ-loop2 Inv-loop μ-loop
+element-copy-out-queue-3 c = c .before .before .before .before .before .before .lowest .ensures .node
+
+pub mul-ids : tie.Need-mul-ids Inv-loop2 μ-loop2 Inv-loop μ-loop
+mul-ids c = record { fits = omega (arith, stands-at (walk-at (c .before .before .before .before .before .before .before))) }
+
+pub sub-released : tie.Need-sub-released Inv-loop2 μ-loop2 Inv-loop μ-loop
+sub-released c = stands-at (walk-at (c .before .before .before .before .before .before .before))
+
+pub part-ids-start : tie.Need-part-ids-start Inv-loop2 μ-loop2 Inv-loop μ-loop
+part-ids-start c = stands-at (walk-at (c .before .before .before .before .before .before .before))
+
+pub part-ids-end : tie.Need-part-ids-end Inv-loop2 μ-loop2 Inv-loop μ-loop
+part-ids-end c = omega (arith, ids-long (walk-at (c .before .before .before .before .before .before .before)))
+
+pub released-requires : tie.Need-released-requires Inv-loop2 μ-loop2 Inv-loop μ-loop
+released-requires c κs =
+    let test = c .before .before in
+    let settled = test .before .before in
+    let share = settled .before .before in
+    let node = share .before .before in
+    let at = walk-at node in
+    let fits =
+    release-fits (sound-at at) (at .before .growth .result) (at .loop2 .inv) (node .lowest .ensures) (share .wide .ensures)
+    (settled .settle .ensures) (test .if1 .taken) (passing (at .before .before) .room) (gain-small at) in
+    (fits .0, subst (λ (xs : List ℕ). getD (at .loop2 .c .queues) (node .lowest .result) (lengthOnly 0) .len ≤ length xs) (rest-at at) (fits .1))
+
+pub mul-row-3 : tie.Need-mul-row-3 Inv-loop2 μ-loop2 Inv-loop μ-loop
+mul-row-3 c = record { fits = omega (arith, c .before .before .before .before .before .before .before .before .before .before .before .lowest .ensures .node) }
+
+pub element-set-from-row : tie.Need-element-set-from-row Inv-loop2 μ-loop2 Inv-loop μ-loop
+element-set-from-row c = c .before .before .before .before .before .before .before .before .before .before .before .lowest .ensures .node
+
+pub mul-c : tie.Need-mul-c Inv-loop2 μ-loop2 Inv-loop μ-loop
+mul-c c = record { fits = omega (arith, c .before .before .before .before .before .before .before .before .before .before .before .lowest .ensures .node) }
+
+pub way-write-given-c : tie.Need-way-write-given-c Inv-loop2 μ-loop2 Inv-loop μ-loop
+way-write-given-c c = (c .before .before .before .before .before .before .before .before .before .before .before .lowest .ensures .node, tt)
+
+pub mul-c-2 : tie.Need-mul-c-2 Inv-loop2 μ-loop2 Inv-loop μ-loop
+mul-c-2 c = record { fits = omega (arith, c .before .before .before .before .before .before .before .before .before .before .before .before .lowest .ensures .node) }
+
+pub way-write-given-c-2 : tie.Need-way-write-given-c-2 Inv-loop2 μ-loop2 Inv-loop μ-loop
+way-write-given-c-2 c = (c .before .before .before .before .before .before .before .before .before .before .before .before .lowest .ensures .node, tt)
+
+pub add-done : tie.Need-add-done Inv-loop2 μ-loop2 Inv-loop μ-loop
+add-done c =
+    let released = c .before .before .before .before .before in
+    let test = released .before .before .before in
+    let settled = test .before .before in
+    let share = settled .before .before in
+    let node = share .before .before in
+    let at = walk-at node in
+    let fits : at .loop2 .done + released .released .result .count ≤ 504 =
+    count-fits (sound-at at) (at .before .growth .result) (at .loop2 .inv) (node .lowest .ensures) (share .wide .ensures)
+    (settled .settle .ensures) (test .if1 .taken) (passing (at .before .before) .room)
+    (released .released .ensures .0, released .released .ensures .1 ∙ ap (lentAfter _) (sym (rest-at at))) in
+    record { fits = omega (arith, fits) }
+
+pub mul-row-4 : tie.Need-mul-row-4 Inv-loop2 μ-loop2 Inv-loop μ-loop
+mul-row-4 c = record { fits = omega (arith, c .before .before .before .before .before .before .lowest .ensures .node) }
+
+pub element-set-from-row-2 : tie.Need-element-set-from-row-2 Inv-loop2 μ-loop2 Inv-loop μ-loop
+element-set-from-row-2 c = c .before .before .before .before .before .before .lowest .ensures .node
+
+pub remove-requires : tie.Need-remove-requires Inv-loop2 μ-loop2 Inv-loop μ-loop
+remove-requires c κs = c .before .before .before .before .before .before .lowest .ensures .node
+
+pub loop2-less : tie.Need-loop2-less Inv-loop2 μ-loop2 Inv-loop μ-loop
+loop2-less c =
+    let node = c .before .before .before .before .before .before .before in
+    less-left (walk-at node .loop2 .inv .passed) (node .lowest .ensures) (c .remove .ensures)
+
+pub loop2-again : tie.Need-loop2-again Inv-loop2 μ-loop2 Inv-loop μ-loop
+loop2-again c =
+    let settled = c .before .before .before in
+    let share = settled .before .before in
+    let node = share .before .before in
+    let at = walk-at node in
+    ⊎-elim
+    (λ w.
+    same-walking (back-at at (w .3 .ensures .1) (w .10)) (w .9) (w .11)
+    (goes-on (sound-at at) (at .before .growth .result) (at .loop2 .inv) (node .lowest .ensures) (share .wide .ensures)
+    (settled .settle .ensures) (w .0 .taken) (passing (at .before .before) .room)
+    (w .3 .ensures .0, w .3 .ensures .1 ∙ ap (lentAfter _) (sym (rest-at at))) (c .remove .ensures)))
+    (λ w.
+    same-walking (w .2) (w .1) (w .3)
+    (rests (sound-at at) (at .before .growth .result) (at .loop2 .inv) (node .lowest .ensures) (share .wide .ensures)
+    (settled .settle .ensures) (w .0 .left) (c .remove .ensures)))
+    (c .before .if1 .came)
+
+pub advanced-requires : tie.Need-advanced-requires Inv-loop2 μ-loop2 Inv-loop μ-loop
+advanced-requires c κs =
+    let at = c .before in
+    (passing-is-near (sound-at at) (passing (at .before .before)), at .before .growth .ensures)
+
+pub enum-known-verdict : tie.Need-enum-known-verdict Inv-loop2 μ-loop2 Inv-loop μ-loop
+enum-known-verdict c = search needs
+
+pub ids-kept : (m : tie.At-match4-came Inv-loop2 μ-loop2 Inv-loop μ-loop) → length (m .match4 .ids) ≡ 504
+ids-kept m = ⊎-elim (λ w. rw (w .7) (ids-long (record { before = record { before = record { before = record { before = m .before; match4 = w .0 }; enum-told4 = w .1 }; growth = w .2 }; loop2 = w .3 }))) (λ w. rw (w .4) refl) (m .match4 .came)
+
+pub slice-aggregate-put-ticked : tie.Need-slice-aggregate-put-ticked Inv-loop2 μ-loop2 Inv-loop μ-loop
+slice-aggregate-put-ticked c = sym (ids-kept (c .before))
+
+pub sub-put-ticked : tie.Need-sub-put-ticked Inv-loop2 μ-loop2 Inv-loop μ-loop
+sub-put-ticked c = left-at (tick-turn (c .before .before))
+
+pub part-put-ticked-start : tie.Need-part-put-ticked-start Inv-loop2 μ-loop2 Inv-loop μ-loop
+part-put-ticked-start c = left-at (tick-turn (c .before .before))
+
+pub part-put-ticked-end : tie.Need-part-put-ticked-end Inv-loop2 μ-loop2 Inv-loop μ-loop
+part-put-ticked-end c = search needs
+
+pub put-ticked-requires : tie.Need-put-ticked-requires Inv-loop2 μ-loop2 Inv-loop μ-loop
+put-ticked-requires c κs =
+    let m = c .before .before in
+    let t = tick-turn (m .before) in
+    (can-print (head t .loop .inv .sound) _ (is-ticked m .0) (ids-kept m), room-at t _ (omega arith))
+
+pub add-count-2 : tie.Need-add-count-2 Inv-loop2 μ-loop2 Inv-loop μ-loop
+add-count-2 c =
+    let put = c .before .before in
+    count-at (tick-turn (put .before .before .before .before)) (tickLines _ _) (put .put-ticked .ensures) (put .put-ticked .kept .1 .1 .0)
+
+pub loop-less-2 : tie.Need-loop-less-2 Inv-loop2 μ-loop2 Inv-loop μ-loop
+loop-less-2 c = less-at (tick-turn (c .before .before .before .before .before .before))
+
+pub loop-again-2 : tie.Need-loop-again-2 Inv-loop2 μ-loop2 Inv-loop μ-loop
+loop-again-2 c =
+    let put = c .before .before in
+    let m = put .before .before .before in
+    again-at (tick-turn (m .before)) _ (tick-asked (m .before) .call2 .given .1) (tick-is-call _) _
+    (tick-answered _ _ _ _ (is-ticked m .0) (is-ticked m .1) (put .put-ticked .ensures)) (put .put-ticked .kept .1 .1 .0)
