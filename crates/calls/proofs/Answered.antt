@@ -4,13 +4,14 @@ use mathlib.Core.Path.{_≡_, refl, sym, ap, _∙_}
 use mathlib.Core.List.{List}
 use Prim.Native.Nat.{ℕ, _*_, _≤_}
 use native.Mathlib.Omega.{arith}
-use lib.ListN.{length, take}
+use lib.ListN.{length, take, drop}
+use lib.Seq.{take-at}
 use Rattle.rules.specs.Numbers.{lineRoom}
 use Rattle.rules.specs.Refusals.{firstOf, tickChecks}
-use Rattle.rules.specs.Tick.{growth, releases}
+use Rattle.rules.specs.Tick.{growth, releases, lentAfter}
 use Rattle.rules.specs.Replay.{refusalLine, answerLine, releaseLines, tickLines, planLines, verdictLines, allRoom, shareLinesOf}
 use Rattle.rules.specs.Chunks.{callOf, calling}
-use Rattle.rules.specs.Entries.{submitted, ticked, tickedBy, lentOf, planned, toVrate, setBy}
+use Rattle.rules.specs.Entries.{submitted, ticked, tickedBy, lentBy, lentOf, planned, toVrate, setBy}
 use Rattle.rules.specs.Invariant.{Sound}
 use Rattle.rules.specs.Buffers.{Written}
 use Rattle.rules.specs.Laws.Lines.{share-lines}
@@ -47,12 +48,12 @@ released-fit {c} sound time lent {done} {n} e f = go (firstOf (tickChecks time (
         omega (arith, tick-releases-fit sound time (length lent) p)
     go (Refused x) p q = never (cc)
 
-pub can-print : {c : Controller} → Sound c → (time : ℕ) {done : Ticked} {places : ℕ} → done ≡ ticked time allRoom c → places ≡ 504
-    → CanPrint (done .answer) places
-can-print {c} sound time {done} {places} e l = go (done .answer) refl
+pub can-print : {c : Controller} → Sound c → (time : ℕ) (lent : List ℕ) {done : Ticked} {places : ℕ} → done ≡ ticked time lent c → length lent ≡ 504
+    → places ≡ 504 → CanPrint (done .answer) places
+can-print {c} sound time lent {done} {places} e k l = go (done .answer) refl
   where
     go : (a : Count) → done .answer ≡ a → CanPrint a places
-    go (Released n) f = let fit : n ≤ 504 = released-fit sound time allRoom e f in (omega arith, omega arith)
+    go (Released n) f = let fit : n ≤ length lent = released-fit sound time lent e f in (omega arith, omega arith)
     go (Unticked x) f = tt
 
 -- ---- what is read asks for a call
@@ -94,6 +95,15 @@ module _ {r : ℕ} (o₀ o : List ℕ) where
   unfolding planLinesOf
   unplanned-put active shares e w = rw e w
 
+-- the ids that a tick wrote stand first, so its lines are the same whatever stood in the buffer that it was lent
+tick-lines : (v : Verdict) (time : ℕ) (lent : List ℕ) (c : Controller)
+    → tickLines (tickedBy v time c .answer) (lentBy v time lent c) ≡ tickLines (tickedBy v time c .answer) (lentBy v time allRoom c)
+unfolding tickLines tickedBy lentBy lentAfter
+tick-lines Accepted time lent c =
+    let ids = releases (growth (c .clock) time) c in
+    ap releaseLines (take-at ids (drop (length ids) lent) (length ids) refl ∙ sym (take-at ids (drop (length ids) allRoom) (length ids) refl))
+tick-lines (Refused x) time lent c = refl
+
 -- ---- what a call printed and left
 abbrev pub Answered : Call → Controller → ℕ → List ℕ → List ℕ → Controller → Type 0
 Answered call c r o₀ o d = Written (calling call c .bytes) r o₀ o × (d ≡ calling call c .state)
@@ -109,10 +119,14 @@ module _ (c : Controller) {r : ℕ} (o₀ o : List ℕ) where
   unfolding calling
   bio-answered b e w = rw e (rw e at w, refl)
 
-  pub tick-answered : (time : ℕ) {done : Ticked} {lent : List ℕ} → done ≡ ticked time allRoom c → lent ≡ lentOf time allRoom c
-      → Written (tickLines (done .answer) lent) r o₀ o → Answered (CallTick time) c r o₀ o (done .state)
-  unfolding calling
-  tick-answered time e f w = rw e (rw (e, f) at w, refl)
+  pub tick-answered : (time : ℕ) (lent : List ℕ) {done : Ticked} {ids : List ℕ} → length lent ≡ 504 → done ≡ ticked time lent c → ids ≡ lentOf time lent c
+      → Written (tickLines (done .answer) ids) r o₀ o → Answered (CallTick time) c r o₀ o (done .state)
+  unfolding calling ticked lentOf
+  tick-answered time lent k e f w =
+      let v = firstOf (tickChecks time 504 c) in
+      let e′ : _ ≡ tickedBy v time c = e ∙ ap (λ (n : ℕ). tickedBy (firstOf (tickChecks time n c)) time c) k in
+      let f′ : _ ≡ lentBy v time lent c = f ∙ ap (λ (n : ℕ). lentBy (firstOf (tickChecks time n c)) time lent c) k in
+      rw e′ (rw (e′, f′, tick-lines v time lent c) at w, refl)
 
   pub plan-answered : {done : Outcome} → done ≡ planned c → Written (planLinesOf (done .answer) (done .state .active) (done .state .shares)) r o₀ o
       → Answered CallPlan c r o₀ o (done .state)

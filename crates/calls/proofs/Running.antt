@@ -11,7 +11,7 @@ use lib.ListN.{length}
 use borrow.Author.Tests.{lt-leb, leb-true, leb-false, ltb-true, ltb-false}
 use Rattle.rules.specs.Numbers.{lineRoom}
 use Rattle.rules.specs.Trace.{readAt}
-use Rattle.rules.specs.Replay.{nextPlace}
+use Rattle.rules.specs.Replay.{nextPlace, allRoom}
 use Rattle.rules.specs.Chunks.{callOf, isCall, calling, still, calledBefore, runFrom}
 use Rattle.rules.specs.Invariant.{Sound}
 use Rattle.rules.specs.Buffers.{Written, Stands, restOf, putBack}
@@ -82,24 +82,26 @@ module _ (left room : ℕ) where
       go false f h = inl (omega (arith, ltb-false 0 left f))
 
 -- ---- the loop
-pub record Running (trace o₀ : List ℕ) (most place : ℕ) (c₀ : Controller) (o : List ℕ) (c : Controller) (at count left : ℕ) : Type 0 where
+pub record Running (trace o₀ : List ℕ) (most place : ℕ) (c₀ : Controller) (o ids : List ℕ) (c : Controller) (at count left : ℕ) : Type 0 where
+  pub places : length ids ≡ 504
   pub bytes : List ℕ
   pub front : Stands bytes o₀ o count
   pub sound : Sound c
   pub same : runFrom most trace (length o₀) place c₀ ≡ calledBefore bytes (runFrom left trace (length o₀ - count) at c)
 
-pub begun : (trace o₀ : List ℕ) (most place : ℕ) (c : Controller) → Sound c → Running trace o₀ most place c o₀ c place 0 most
+pub begun : (trace o₀ : List ℕ) (most place : ℕ) (c : Controller) → Sound c → Running trace o₀ most place c o₀ allRoom c place 0 most
 begun trace o₀ most place c sound =
     let all : length o₀ ≡ length o₀ - 0 = omega arith in
     record {
+      places = refl;
       bytes = [];
       front = stands-none o₀;
       sound = sound;
       same = ap (λ (room : ℕ). runFrom most trace room place c) all;
     }
 
-module _ {trace o₀ : List ℕ} {most place : ℕ} {c₀ : Controller} {o : List ℕ} {c : Controller} {at count left : ℕ}
-    (v : Running trace o₀ most place c₀ o c at count left) where
+module _ {trace o₀ : List ℕ} {most place : ℕ} {c₀ : Controller} {o ids : List ℕ} {c : Controller} {at count left : ℕ}
+    (v : Running trace o₀ most place c₀ o ids c at count left) where
   pub asks : (k : ℕ) → k ≤ lineRoom → lineRoom ≤ length o - count → k ≤ length (restOf o count)
   asks k l h = rw (stands-rest (v .front)) (omega (arith, stands-kept (v .front)))
 
@@ -126,15 +128,16 @@ module _ {trace o₀ : List ℕ} {most place : ℕ} {c₀ : Controller} {o : Lis
 
     pub called : (call' : Call) {next : ℕ} {d : Controller} → 0 < left → lineRoom ≤ length o - count → call ≡ call' → isCall call' ≡ true
         → next ≡ nextPlace read at → (r : ℕ) (ys : List ℕ) → Answered call' c r (restOf o count) ys d
-        → length ys ≡ length (restOf o count)
-        → Running trace o₀ most place c₀ (putBack o count ys) d next (count + r) (left - 1)
-    called call' {next} {d} some room i is n r ys answered l =
+        → length ys ≡ length (restOf o count) → {ids′ : List ℕ} → length ids′ ≡ 504
+        → Running trace o₀ most place c₀ (putBack o count ys) ids′ d next (count + r) (left - 1)
+    called call' {next} {d} some room i is n r ys answered l full =
         let w : Written (calling call' c .bytes) r (restOf o count) ys = answered .0 in
         let here : callOf (readAt trace at) ≡ call' = ap callOf (sym e) ∙ sym k ∙ i in
         let wide : lineRoom ≤ length o₀ - count = rw (stands-kept (v .front)) at room in
         let turn = run-goes trace left (length o₀ - count) at c some (rw here is) wide in
         let less : length o₀ - count - length (calling call' c .bytes) ≡ length o₀ - (count + r) = omega (arith, w .0) in
         record {
+          places = full;
           bytes = v .bytes ++ calling call' c .bytes;
           front = stands-more (v .front) (calling call' c .bytes) ys r w (stands-fits (v .front) (calling call' c .bytes) ys r w l);
           sound = rw (answered .1) (calling-keeps call' (v .sound));

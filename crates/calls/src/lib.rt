@@ -127,6 +127,8 @@ pub fn run(mut c: Controller, trace: &[u8], place: usize, most: usize, out: &mut
     requires { ⌜ Sound c ⌝ }
     ensures { λ r. ⌜ RanAs (runFrom most (now (trace .entry)) (length (now (out .entry))) place c) r (now (out .entry)) (now (out .exit)) ⌝ }
 {
+    // Where a tick puts what it releases. Nothing is read of it but what the tick at hand wrote, so one serves all ticks.
+    let mut ids = [0u32; WAITING_MOST];
     let mut at = place;
     let mut count: usize = 0;
     let mut left = most;
@@ -181,9 +183,8 @@ pub fn run(mut c: Controller, trace: &[u8], place: usize, most: usize, out: &mut
                 count += lines::put_answer(answer, bio.id, &mut out[count..]);
             }
             Call::Tick(time) => {
-                // The leaves' turns change the state where it stands, as in `tick`. There is a place here for each bio
-                // that can wait, so only the clock can refuse.
-                let mut ids = [0u32; WAITING_MOST];
+                // The leaves' turns change the state where it stands, as in `tick`. There is a place for each bio that can
+                // wait, so only the clock can refuse.
                 let clock = c.clock;
                 let verdict = clock::verdict(clock, time);
                 let mut answer = Count::Released(0);

@@ -11,7 +11,6 @@ use Rattle.calls.proofs.run.Proof.Bio as bio
 use Rattle.calls.proofs.run.Proof.Tick as tick
 use Rattle.calls.proofs.run.Proof.Plan as plan
 use Rattle.calls.proofs.run.Proof.Set as set
-
 mod Turn
 mod Bio
 mod Tick

@@ -153,4 +153,4 @@ loop-again c =
     let came = put .before .before in
     let p = placed (came .before) in
     again-at (bio-turn p) _ (bio-asked p .call .given .1) (bio-is-call _) _
-    (bio-answered _ _ _ _ (is-submitted came) (put .put-answer .ensures)) (put .put-answer .kept .1 .1 .0)
+    (bio-answered _ _ _ _ (is-submitted came) (put .put-answer .ensures)) (put .put-answer .kept .1 .1 .0) (head (bio-turn p) .loop .inv .places)

@@ -70,4 +70,4 @@ loop-again-3 c =
     let put = c .before .before in
     let j = put .before .before .before .before in
     again-at (plan-turn (j .before)) _ (plan-asked (j .before) .enum-told5 .given .1) plan-is-call _
-    (plan-answered _ _ _ (is-planned j) (put .put-planned .ensures)) (put .put-planned .kept .1 .1 .1 .0)
+    (plan-answered _ _ _ (is-planned j) (put .put-planned .ensures)) (put .put-planned .kept .1 .1 .1 .0) (head (plan-turn (j .before)) .loop .inv .places)

@@ -6,7 +6,7 @@ use Rattle.rules.specs.Replay.{verdictLines}
 use Rattle.calls.proofs.Answered.{set-answered}
 use Rattle.calls.proofs.Running.{set-is-call}
 use Rattle.calls.proofs.run.Tie as tie
-use Rattle.calls.proofs.run.Proof.Turn.{Inv-loop2, μ-loop2, Inv-loop, μ-loop, left-at, room-at, less-at, count-at, again-at}
+use Rattle.calls.proofs.run.Proof.Turn.{Inv-loop2, μ-loop2, Inv-loop, μ-loop, head, left-at, room-at, less-at, count-at, again-at}
 
 pub enum-known-call-3 : tie.Need-enum-known-call-3 Inv-loop2 μ-loop2 Inv-loop μ-loop
 enum-known-call-3 c = search needs
@@ -40,4 +40,4 @@ loop-again-4 c =
     let done = put .before .before in
     let asked = done .before .before in
     again-at (asked .before .before) _ (asked .call3 .given .1) (set-is-call _) _
-    (set-answered _ _ _ _ (done .vrate .ensures .0) (put .put-verdict .ensures)) (put .put-verdict .kept .1 .0)
+    (set-answered _ _ _ _ (done .vrate .ensures .0) (put .put-verdict .ensures)) (put .put-verdict .kept .1 .0) (head (asked .before .before) .loop .inv .places)

@@ -11,7 +11,7 @@ use Rattle.rules.specs.Tick.{advanced, lentAfter, waitingAll}
 use Rattle.rules.specs.Refusals.{firstOf, tickChecks}
 use Rattle.rules.specs.Entries.{ticked, lentOf}
 use Rattle.rules.specs.Invariant.{Sound, TickPasses}
-use Rattle.rules.specs.Replay.{allRoom, tickLines}
+use Rattle.rules.specs.Replay.{tickLines}
 use Rattle.rules.specs.Buffers.{restOf, putBack}
 use Rattle.rules.specs.Laws.Buffers.{stands-left, stands-kept}
 use Rattle.rules.specs.Laws.Passes.{tick-passes}
@@ -42,21 +42,28 @@ tick-turn v = tick-asked v .before .before
 abbrev pub judged-at : tie.After-growth Inv-loop2 μ-loop2 Inv-loop μ-loop → tie.After-verdict Inv-loop2 μ-loop2 Inv-loop μ-loop
 judged-at g = g .before .before .before
 
+-- the buffer as it comes, with a place for each bio that can wait
+abbrev lent-at : tie.After-verdict Inv-loop2 μ-loop2 Inv-loop μ-loop → List ℕ
+lent-at v = head (tick-turn v) .loop .ids
+
+lent-long : (v : tie.After-verdict Inv-loop2 μ-loop2 Inv-loop μ-loop) → length (lent-at v) ≡ 504
+lent-long v = head (tick-turn v) .loop .inv .places
+
 -- all that can wait has a place, so that a tick which the clock passes is accepted
 pub accepted-at : (c : tie.After-enum-told4 Inv-loop2 μ-loop2 Inv-loop μ-loop) → let v = c .before .before in
-    firstOf (tickChecks (tick-asked v .call2 .given .0 .0) (length allRoom) (head (tick-turn v) .loop .c)) ≡ Accepted
+    firstOf (tickChecks (tick-asked v .call2 .given .0 .0) (length (lent-at v)) (head (tick-turn v) .loop .c)) ≡ Accepted
 accepted-at c =
     let v = c .before .before in
-    let room : waitingAll (head (tick-turn v) .loop .c) ≤ 504 = waiting-small (head (tick-turn v) .loop .inv .sound) in
-    enough-places (tick-asked v .call2 .given .0 .0) (length allRoom) (head (tick-turn v) .loop .c) (v .verdict .ensures) (c .enum-told4 .given .1) refl room
+    let room : waitingAll (head (tick-turn v) .loop .c) ≤ length (lent-at v) = rw (lent-long v) (waiting-small (head (tick-turn v) .loop .inv .sound)) in
+    enough-places (tick-asked v .call2 .given .0 .0) (length (lent-at v)) (head (tick-turn v) .loop .c) (v .verdict .ensures) (c .enum-told4 .given .1) refl room
 
 pub passing : (c : tie.After-enum-told4 Inv-loop2 μ-loop2 Inv-loop μ-loop) → let v = c .before .before in
-    TickPasses (tick-asked v .call2 .given .0 .0) (length allRoom) (head (tick-turn v) .loop .c)
+    TickPasses (tick-asked v .call2 .given .0 .0) (length (lent-at v)) (head (tick-turn v) .loop .c)
 passing c = tick-passes _ _ _ (accepted-at c)
 
 -- by either way the answer, the state and the ids are the tick's
 pub is-ticked : (m : tie.At-match4-came Inv-loop2 μ-loop2 Inv-loop μ-loop) → let v = m .before in let time = tick-asked v .call2 .given .0 .0 in let d = head (tick-turn v) .loop .c in
-    (_≡_ {A = Ticked} (record { answer = m .match4 .answer; state = m .match4 .c }) (ticked time allRoom d)) × (m .match4 .ids ≡ lentOf time allRoom d)
+    (_≡_ {A = Ticked} (record { answer = m .match4 .answer; state = m .match4 .c }) (ticked time (lent-at v) d)) × (m .match4 .ids ≡ lentOf time (lent-at v) d)
 is-ticked m =
     let v = m .before in
     let time = tick-asked v .call2 .given .0 .0 in
@@ -65,11 +72,11 @@ is-ticked m =
     ⊎-elim
     (λ w.
     rw (w .6, w .7, w .8)
-    (accepts time allRoom d (accepted-at (record { before = record { before = v; match4 = w .0 }; enum-told4 = w .1 }))
+    (accepts time (lent-at v) d (accepted-at (record { before = record { before = v; match4 = w .0 }; enum-told4 = w .1 }))
     (over sound time (w .2 .ensures) (w .3 .inv) (omega (arith, w .4 .left))
     (w .5 .ensures ∙ ap (advanced time) (sym (ap (λ (k : Controller). k .clock) (w .3 .inv .going .rest)))))))
     (λ w.
-    rw (w .3, w .4, w .5) (refuses time allRoom d (clock-refuses time (length allRoom) d (v .verdict .ensures) (w .1 .given .1))))
+    rw (w .3, w .4, w .5) (refuses time (lent-at v) d (clock-refuses time (length (lent-at v)) d (v .verdict .ensures) (w .1 .given .1))))
     (m .match4 .came)
 
 pub verdict-requires : tie.Need-verdict-requires Inv-loop2 μ-loop2 Inv-loop μ-loop
@@ -96,7 +103,7 @@ gain-small l = grown-small (passing-is-near (sound-at l) (passing (l .before .be
 
 -- the buffer has 504 places, and what is lent of it and comes back is counted by that
 pub ids-long : (l : tie.At-loop2 Inv-loop2 μ-loop2 Inv-loop μ-loop) → length (l .loop2 .ids) ≡ 504
-ids-long l = stands-kept (l .loop2 .inv .going .front)
+ids-long l = stands-kept (l .loop2 .inv .going .front) ∙ lent-long (judged-at (l .before))
 
 pub stands-at : (l : tie.At-loop2 Inv-loop2 μ-loop2 Inv-loop μ-loop) → l .loop2 .done ≤ 504
 stands-at l = omega (arith, ids-long l, stands-left (l .loop2 .inv .going .front))
@@ -195,11 +202,11 @@ add-done c =
     let share = settled .before .before in
     let node = share .before .before in
     let at = walk-at node in
-    let fits : at .loop2 .done + released .released .result .count ≤ 504 =
+    let fits : at .loop2 .done + released .released .result .count ≤ length (lent-at (judged-at (at .before))) =
     count-fits (sound-at at) (at .before .growth .result) (at .loop2 .inv) (node .lowest .ensures) (share .wide .ensures)
     (settled .settle .ensures) (test .if1 .taken) (passing (at .before .before) .room)
     (released .released .ensures .0, released .released .ensures .1 ∙ ap (lentAfter _) (sym (rest-at at))) in
-    record { fits = omega (arith, fits) }
+    record { fits = omega (arith, fits, lent-long (judged-at (at .before))) }
 
 pub mul-row-4 : tie.Need-mul-row-4 Inv-loop2 μ-loop2 Inv-loop μ-loop
 mul-row-4 c = record { fits = omega (arith, c .before .before .before .before .before .before .lowest .ensures .node) }
@@ -242,7 +249,7 @@ pub enum-known-verdict : tie.Need-enum-known-verdict Inv-loop2 μ-loop2 Inv-loop
 enum-known-verdict c = search needs
 
 pub ids-kept : (m : tie.At-match4-came Inv-loop2 μ-loop2 Inv-loop μ-loop) → length (m .match4 .ids) ≡ 504
-ids-kept m = ⊎-elim (λ w. rw (w .7) (ids-long (record { before = record { before = record { before = record { before = m .before; match4 = w .0 }; enum-told4 = w .1 }; growth = w .2 }; loop2 = w .3 }))) (λ w. rw (w .4) refl) (m .match4 .came)
+ids-kept m = ⊎-elim (λ w. rw (w .7) (ids-long (record { before = record { before = record { before = record { before = m .before; match4 = w .0 }; enum-told4 = w .1 }; growth = w .2 }; loop2 = w .3 }))) (λ w. rw (w .4) (lent-long (m .before))) (m .match4 .came)
 
 pub slice-aggregate-put-ticked : tie.Need-slice-aggregate-put-ticked Inv-loop2 μ-loop2 Inv-loop μ-loop
 slice-aggregate-put-ticked c = sym (ids-kept (c .before))
@@ -260,7 +267,7 @@ pub put-ticked-requires : tie.Need-put-ticked-requires Inv-loop2 μ-loop2 Inv-lo
 put-ticked-requires c κs =
     let m = c .before .before in
     let t = tick-turn (m .before) in
-    (can-print (head t .loop .inv .sound) _ (is-ticked m .0) (ids-kept m), room-at t _ (omega arith))
+    (can-print (head t .loop .inv .sound) _ _ (is-ticked m .0) (lent-long (m .before)) (ids-kept m), room-at t _ (omega arith))
 
 pub add-count-2 : tie.Need-add-count-2 Inv-loop2 μ-loop2 Inv-loop μ-loop
 add-count-2 c =
@@ -275,4 +282,4 @@ loop-again-2 c =
     let put = c .before .before in
     let m = put .before .before .before in
     again-at (tick-turn (m .before)) _ (tick-asked (m .before) .call2 .given .1) (tick-is-call _) _
-    (tick-answered _ _ _ _ (is-ticked m .0) (is-ticked m .1) (put .put-ticked .ensures)) (put .put-ticked .kept .1 .1 .0)
+    (tick-answered _ _ _ _ _ (lent-long (m .before)) (is-ticked m .0) (is-ticked m .1) (put .put-ticked .ensures)) (put .put-ticked .kept .1 .1 .0) (ids-kept m)

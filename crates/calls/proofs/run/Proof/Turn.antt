@@ -22,16 +22,16 @@ use Rattle.calls.proofs.run.Tie as tie
 
 -- the leaves' turns of a tick, as in `tick` itself
 abbrev pub Inv-loop2 : tie.InvT-loop2
-Inv-loop2 trace place most out c₀ at count left here time ids₀ clock gain done₀ turns₀ c ids done turns = Walking gain c₀ ids₀ c ids done turns
+Inv-loop2 trace place most out c₀ ids₀ at count left here time clock gain done₀ turns₀ c ids done turns = Walking gain c₀ ids₀ c ids done turns
 
 abbrev pub μ-loop2 : tie.MeasureT-loop2
-μ-loop2 trace place most out c₀ at count left here time ids₀ clock gain done₀ turns₀ c ids done turns = turns
+μ-loop2 trace place most out c₀ ids₀ at count left here time clock gain done₀ turns₀ c ids done turns = turns
 
 abbrev pub Inv-loop : tie.InvT-loop
-Inv-loop trace place most out₀ c₀ at₀ count₀ left₀ out c at count left = Running trace out₀ most place c₀ out c at count left
+Inv-loop trace place most out₀ c₀ ids₀ at₀ count₀ left₀ out c ids at count left = Running trace out₀ most place c₀ out ids c at count left
 
 abbrev pub μ-loop : tie.MeasureT-loop
-μ-loop trace place most out₀ c₀ at₀ count₀ left₀ out c at count left = left
+μ-loop trace place most out₀ c₀ ids₀ at₀ count₀ left₀ out c ids at count left = left
 
 abbrev pub Turn : Type 0
 Turn = tie.After-next-place Inv-loop2 μ-loop2 Inv-loop μ-loop
@@ -61,10 +61,10 @@ count-at t y {ys} {r} w kept =
     omega (arith, stands-fits (head t .loop .inv .front) y ys r w kept, head t .before .before .before .good .1 .1 .1 .1 .0 .0)
 
 pub again-at : (t : Turn) (call : Call) → t .before .call-of .result ≡ call → isCall call ≡ true → {d : Controller} {r : ℕ} (ys : List ℕ)
-    → Answered call (head t .loop .c) r (rest t) ys d → length ys ≡ length (rest t) →
+    → Answered call (head t .loop .c) r (rest t) ys d → length ys ≡ length (rest t) → {ids : List ℕ} → length ids ≡ 504 →
     let a = head t .before .before .before .args in
-    Running (now (a .trace)) (now (a .out)) (a .most) (a .place) (a .t1) (putBack (head t .loop .out) (head t .loop .count) ys) d
+    Running (now (a .trace)) (now (a .out)) (a .most) (a .place) (a .t1) (putBack (head t .loop .out) (head t .loop .count) ys) ids d
     (t .next-place .result) (head t .loop .count + r) (head t .loop .left - 1)
-again-at t call e is {d} {r} ys answered kept =
+again-at t call e is {d} {r} ys answered kept places =
     called (head t .loop .inv) (t .before .before .read-from .ensures .0) (t .before .call-of .ensures) call (goes-at t .0) (goes-at t .1) e is
-    (t .next-place .ensures) r ys answered kept
+    (t .next-place .ensures) r ys answered kept places
