@@ -10,6 +10,8 @@ ghost use Rattle.rules.specs.Chunks.{callOf, isCall, isRunning, runs as runsOf,
 ghost use Rattle.rules.specs.Buffers.{Written};
 ghost use Rattle.rules.specs.Invariant.{Sound};
 ghost use Rattle.calls.specs.Calls.{CanPrint, planLinesOf, RanAs};
+use controller::start::vrate_verdict;
+use controller::start::with_rate;
 use leaf::tick::released;
 use leaf::tick::settle;
 use rules::budget::Controller;
@@ -241,10 +243,13 @@ pub fn run(mut c: Controller, trace: &[u8], place: usize, most: usize, out: &mut
                 count += put_planned(answer, c.active, &c.shares, &mut out[count..]);
             }
             Call::Set(setting) => {
-                let done = controller::start::vrate(c, setting.vrate);
-                let answer = done.answer;
+                let answer = vrate_verdict(setting.vrate);
+                if let Verdict::Accepted = answer {
+                    let clock = c.clock;
+                    let paced = with_rate(clock, setting.vrate);
+                    c.clock = paced;
+                }
                 count += lines::put_verdict(answer, &mut out[count..]);
-                c = done.state;
             }
         }
     }

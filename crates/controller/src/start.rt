@@ -1,10 +1,11 @@
 // Where a controller begins, and its pace: start and vrate.
 ghost use mathlib.Core.Path.{_≡_};
-ghost use Rattle.rules.specs.Refusals.{verdictNumber, due, startChecks, vrateChecks};
+ghost use Rattle.rules.specs.Refusals.{firstOf, verdictNumber, due, startChecks, vrateChecks};
 ghost use Rattle.rules.specs.Entries.{started, slowestModel, noTree, vrated as vratedOf};
-ghost use Rattle.rules.specs.Budget.{fresh};
+ghost use Rattle.rules.specs.Budget.{fresh, withRate};
 ghost use Rattle.rules.specs.Plan.{vrateInRange};
 ghost use Rattle.controller.specs.Begun.{Unstarted};
+use rules::budget::Clock;
 use rules::budget::Controller;
 use rules::budget::Outcome;
 use rules::cost::Model;
@@ -79,22 +80,34 @@ fn in_range(v: u16) -> bool
     (1 <= v) & (v <= VRATE_MOST)
 }
 
-// "vrate is set ..": refusal 15, or the new vrate holds for later ticks.
+// "vrate is set ..": refusal 15 ..
+pub fn vrate_verdict(v: u16) -> Verdict
+    ensures { λ r. ⌜ r ≡ firstOf (vrateChecks v) ⌝ }
+{
+    if in_range(v) {
+        return Verdict::Accepted;
+    }
+    Verdict::Refused(Refusal::BadVrate)
+}
+
+// .. or the new vrate holds for later ticks.
+pub fn with_rate(mut clock: Clock, v: u16) -> Clock
+    ensures { λ r. ⌜ r ≡ withRate v clock ⌝ }
+{
+    clock.vrate = v;
+    clock
+}
+
+// Both together, for a caller that hands the state over; a caller that holds it changes its clock where it stands.
 pub fn vrate(mut c: Controller, v: u16) -> Outcome
     ensures { λ r. ⌜ r ≡ vratedOf v c ⌝ }
     ensures number { λ r. ⌜ verdictNumber (r .answer) ≡ due (vrateChecks v) ⌝ }
 {
-    if in_range(v) {
-        let mut clock = c.clock;
-        clock.vrate = v;
-        c.clock = clock;
-        return Outcome {
-            answer: Verdict::Accepted,
-            state: c,
-        };
+    let answer = vrate_verdict(v);
+    if let Verdict::Accepted = answer {
+        let clock = c.clock;
+        let next = with_rate(clock, v);
+        c.clock = next;
     }
-    Outcome {
-        answer: Verdict::Refused(Refusal::BadVrate),
-        state: c,
-    }
+    Outcome { answer, state: c }
 }

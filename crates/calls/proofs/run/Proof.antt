@@ -156,7 +156,10 @@ run-spec =
     plan.loop-less-3
     plan.loop-again-3
     set.enum-known-call-3
-    set.vrate-requires
+    set.vrate-verdict-requires
+    set.enum-told-6
+    set.with-rate-requires
+    set.enum-told-7
     set.sub-put-verdict
     set.part-put-verdict-start
     set.part-put-verdict-end

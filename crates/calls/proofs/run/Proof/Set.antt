@@ -1,43 +1,71 @@
--- `calls::run` at a setting.
+-- `calls::run` at a setting: the clock goes at the new rate where it stands.
 -- Assumes nothing.
+use mathlib.Core.Path.{_≡_}
+use mathlib.Core.Logic.{⊎-elim}
 use native.Mathlib.Omega.{arith}
 use borrow.Author.Needs.{needs}
+use Rattle.rules.specs.Entries.{setBy}
 use Rattle.rules.specs.Replay.{verdictLines}
+use Rattle.rules.specs.declared.budget.Outcome.{Outcome}
+use Rattle.controller.proofs.Vrates.{rate-set, rate-kept}
 use Rattle.calls.proofs.Answered.{set-answered}
 use Rattle.calls.proofs.Running.{set-is-call}
 use Rattle.calls.proofs.run.Tie as tie
-use Rattle.calls.proofs.run.Proof.Turn.{Inv-loop2, μ-loop2, Inv-loop, μ-loop, head, left-at, room-at, less-at, count-at, again-at}
+use Rattle.calls.proofs.run.Proof.Turn.{Inv-loop2, μ-loop2, Inv-loop, μ-loop, Turn, head, left-at, room-at, less-at, count-at, again-at}
 
 pub enum-known-call-3 : tie.Need-enum-known-call-3 Inv-loop2 μ-loop2 Inv-loop μ-loop
 enum-known-call-3 c = search needs
 
-pub vrate-requires : tie.Need-vrate-requires Inv-loop2 μ-loop2 Inv-loop μ-loop
-vrate-requires c κs = tt
+abbrev set-asked : tie.After-vrate-verdict Inv-loop2 μ-loop2 Inv-loop μ-loop → tie.After-call3 Inv-loop2 μ-loop2 Inv-loop μ-loop
+set-asked v = v .before .before
+
+abbrev set-turn : tie.After-vrate-verdict Inv-loop2 μ-loop2 Inv-loop μ-loop → Turn
+set-turn v = set-asked v .before .before
+
+-- by either way the state is the setting's
+is-set : (m : tie.At-match5-came Inv-loop2 μ-loop2 Inv-loop μ-loop) → let v = m .before in
+    _≡_ {A = Outcome} (record { answer = v .vrate-verdict .result; state = m .match5 .c }) (setBy (set-asked v .call3 .given .0 .0) (head (set-turn v) .loop .c))
+is-set m =
+    let judged = m .before .vrate-verdict .ensures in
+    ⊎-elim (λ w. rw (w .4) (rate-set _ _ judged (w .1 .given .1) (w .3 .ensures))) (λ w. rw (w .2) (rate-kept _ _ judged (w .1 .given .1)))
+    (m .match5 .came)
+
+pub vrate-verdict-requires : tie.Need-vrate-verdict-requires Inv-loop2 μ-loop2 Inv-loop μ-loop
+vrate-verdict-requires c κs = search needs
+
+pub enum-told-6 : tie.Need-enum-told-6 Inv-loop2 μ-loop2 Inv-loop μ-loop
+enum-told-6 c = search needs
+
+pub with-rate-requires : tie.Need-with-rate-requires Inv-loop2 μ-loop2 Inv-loop μ-loop
+with-rate-requires c κs = search needs
+
+pub enum-told-7 : tie.Need-enum-told-7 Inv-loop2 μ-loop2 Inv-loop μ-loop
+enum-told-7 c = search needs
 
 pub sub-put-verdict : tie.Need-sub-put-verdict Inv-loop2 μ-loop2 Inv-loop μ-loop
-sub-put-verdict c = left-at (c .before .before .before .before)
+sub-put-verdict c = left-at (set-turn (c .before))
 
 pub part-put-verdict-start : tie.Need-part-put-verdict-start Inv-loop2 μ-loop2 Inv-loop μ-loop
-part-put-verdict-start c = left-at (c .before .before .before .before)
+part-put-verdict-start c = left-at (set-turn (c .before))
 
 pub part-put-verdict-end : tie.Need-part-put-verdict-end Inv-loop2 μ-loop2 Inv-loop μ-loop
 part-put-verdict-end c = search needs
 
 pub put-verdict-requires : tie.Need-put-verdict-requires Inv-loop2 μ-loop2 Inv-loop μ-loop
-put-verdict-requires c κs = room-at (c .before .before .before .before .before) 5 (omega arith)
+put-verdict-requires c κs = room-at (set-turn (c .before .before)) 5 (omega arith)
 
 pub add-count-4 : tie.Need-add-count-4 Inv-loop2 μ-loop2 Inv-loop μ-loop
 add-count-4 c =
     let put = c .before .before in
-    count-at (put .before .before .before .before .before .before) (verdictLines _) (put .put-verdict .ensures) (put .put-verdict .kept .1 .0)
+    count-at (set-turn (put .before .before .before)) (verdictLines _) (put .put-verdict .ensures) (put .put-verdict .kept .1 .0)
 
 pub loop-less-4 : tie.Need-loop-less-4 Inv-loop2 μ-loop2 Inv-loop μ-loop
-loop-less-4 c = less-at (c .before .before .before .before .before .before .before .before .before)
+loop-less-4 c = less-at (set-turn (c .before .before .before .before .before))
 
 pub loop-again-4 : tie.Need-loop-again-4 Inv-loop2 μ-loop2 Inv-loop μ-loop
 loop-again-4 c =
-    let put = c .before .before .before in
-    let done = put .before .before in
-    let asked = done .before .before in
-    again-at (asked .before .before) _ (asked .call3 .given .1) (set-is-call _) _
-    (set-answered _ _ _ _ (done .vrate .ensures .0) (put .put-verdict .ensures)) (put .put-verdict .kept .1 .0) (head (asked .before .before) .loop .inv .places)
+    let put = c .before .before in
+    let came = put .before .before in
+    let t = set-turn (came .before) in
+    again-at t _ (set-asked (came .before) .call3 .given .1) (set-is-call _) _
+    (set-answered _ _ _ _ (is-set came) (put .put-verdict .ensures)) (put .put-verdict .kept .1 .0) (head t .loop .inv .places)
