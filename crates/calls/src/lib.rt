@@ -10,6 +10,7 @@ ghost use Rattle.rules.specs.Chunks.{callOf, isCall, isRunning, runs as runsOf,
 ghost use Rattle.rules.specs.Buffers.{Written};
 ghost use Rattle.rules.specs.Invariant.{Sound};
 ghost use Rattle.calls.specs.Calls.{CanPrint, planLinesOf, RanAs};
+use controller::shares::base_anew;
 use controller::start::vrate_verdict;
 use controller::start::with_rate;
 use leaf::tick::released;
@@ -24,11 +25,12 @@ use rules::replay::Ran;
 use rules::replay::Setting;
 use rules::trace::Read;
 use rules::trace::Record;
+use sets::insert;
 use sets::lowest;
 use sets::remove;
 use submit::Queueing;
 use submit::Shares;
-use submit::View;
+use submit::seen;
 use tick::clock;
 
 const WAITING_MOST: usize = 504;
@@ -149,39 +151,65 @@ pub fn run(mut c: Controller, trace: &[u8], place: usize, most: usize, out: &mut
                 };
             }
             Call::Bio(bio) => {
-                // Usually only a row changes, and the queue that the bio joins, both where they stand. Where shares change,
-                // the state is handed through `submit`.
+                // A row changes, and the queue that the bio joins, both where they stand, as in `submit`; where shares change, so
+                // do the shares and the budgets of all.
                 let node = submit::place_of(bio);
                 let model = c.model;
-                let share = c.shares[node];
                 let row = c.rows[node];
-                let queue = c.queues[node];
-                let view = View {
-                    leaves: c.leaves,
-                    active: c.active,
-                    donors: c.donors,
+                let view = seen(
+                    c.leaves,
+                    c.active,
+                    c.donors,
                     model,
-                    share,
+                    c.shares[node],
                     row,
-                    waiting: queue.len,
-                };
-                let decided = submit::decide(bio, node, view);
-                let mut answer = decided.answer;
-                let shares = decided.shares;
-                if let Shares::Stand = shares {
-                    let next = decided.row;
-                    c.rows[node] = next;
-                    let queueing = decided.queue;
-                    if let Queueing::Joins(cost) = queueing {
-                        let queue = c.queues[node];
-                        let longer = submit::joined(bio.id, cost, queue);
-                        c.queues[node] = longer;
-                    }
-                } else {
-                    let done = submit::submit(c, bio);
-                    answer = done.answer;
-                    c = done.state;
+                    c.queues[node].len,
+                );
+                let mut decided = submit::decide(bio, node, view);
+                let first = decided.shares;
+                if let Shares::Activate = first {
+                    let tree = c.tree;
+                    let rows = c.rows;
+                    let active = insert(c.active, node);
+                    let woken = base_anew(tree, active, rows, &c.shares);
+                    let shares = woken.shares;
+                    let rows = woken.rows;
+                    c.active = active;
+                    c.donors = 0;
+                    c.shares = shares;
+                    c.rows = rows;
+                    let row = c.rows[node];
+                    let view = seen(
+                        c.leaves,
+                        c.active,
+                        c.donors,
+                        model,
+                        c.shares[node],
+                        row,
+                        c.queues[node].len,
+                    );
+                    decided = submit::decide(bio, node, view);
                 }
+                let next = decided.row;
+                c.rows[node] = next;
+                let queueing = decided.queue;
+                if let Queueing::Joins(cost) = queueing {
+                    let queue = c.queues[node];
+                    let longer = submit::joined(bio.id, cost, queue);
+                    c.queues[node] = longer;
+                }
+                let last = decided.shares;
+                if let Shares::Return = last {
+                    let tree = c.tree;
+                    let rows = c.rows;
+                    let ended = base_anew(tree, c.active, rows, &c.shares);
+                    let shares = ended.shares;
+                    let rows = ended.rows;
+                    c.donors = 0;
+                    c.shares = shares;
+                    c.rows = rows;
+                }
+                let answer = decided.answer;
                 count += lines::put_answer(answer, bio.id, &mut out[count..]);
             }
             Call::Tick(time) => {

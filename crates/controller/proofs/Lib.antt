@@ -1,2 +1,3 @@
 pub mod Begin
 pub mod Vrates
+pub mod Anew

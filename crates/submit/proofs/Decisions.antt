@@ -50,7 +50,7 @@ use Rattle.submit.specs.declared.Decision.{Decision}
 use Rattle.submit.specs.OnLeaf.{CanJudge, queued, onLeaf}
 use Rattle.submit.proofs.Shares.{the-type}
 use Rattle.submit.proofs.Shapes.{leaf-node, at-node, found, model-is-sound, no-leaf, unfit, Ready, ready-there, landed, submits, no-budget-gained, joins-with-room, wakes, woken-within}
-use Rattle.submit.specs.Decision.{placeOf, viewAt, CanDecide, sharesAfter, declined, activates, judgedAt, decisionBy, decision}
+use Rattle.submit.specs.Decision.{placeOf, viewOf, viewAt, CanDecide, sharesAfter, declined, activates, judgedAt, decisionBy, decision}
 
 -- ---- the code's own steps
 module _ (b : Bio) (n : ℕ) (v : View) where
@@ -84,17 +84,9 @@ module _ (b : Bio) (n : ℕ) (v : View) where
 pub queue-read : {c : Controller} → Sound c → {n : ℕ} → n < nodesMost → getD (c .queues) n (lengthOnly 0) ≡ queueAt c n
 queue-read {c} s {n} h = getD-inside (c .queues) n (lengthOnly 0) emptyQueue (omega (arith, s .queues-all, h))
 
-pub seen : {c : Controller} → Sound c → {n : ℕ} → n < nodesMost → _≡_ {A = View} (record {
-  leaves = c .leaves;
-  active = c .active;
-  donors = c .donors;
-  model = c .model;
-  share = shareAt c n;
-  row = rowAt c n;
-  waiting = getD (c .queues) n (lengthOnly 0) .len;
-})
-    (viewAt n c)
-seen s h = rw (queue-read s h)
+pub seen : {c : Controller} → Sound c → {n : ℕ} → n < nodesMost → {v : View}
+    → v ≡ viewOf (c .leaves) (c .active) (c .donors) (c .model) (shareAt c n) (rowAt c n) (getD (c .queues) n (lengthOnly 0) .len) → v ≡ viewAt n c
+seen s h e = e ∙ rw (queue-read s h)
 
 pub can-decide : {c : Controller} → Sound c → {n : ℕ} → n < nodesMost → CanDecide n (viewAt n c)
 can-decide {c} s {n} h = record { place = h; model = model-is-sound s; fit = λ a. active-is-fit s n a .books }
@@ -286,6 +278,12 @@ joins-room b n v k = go (has (v .leaves) n)
     go true e = costed (costing (v .model) (v .row) b) e
     go false e = never (cc)
 
+-- a decision that is to be carried out, and the state to do it in: that of the bio, or the one in which its leaf is active
+pub record Carries (b : Bio) (c : Controller) (n : ℕ) (r : Decision) (d : Controller) : Type 0 where
+  pub sound : Sound d
+  pub same : r ≡ decision b n (viewAt n d)
+  pub whole : carried b n r d ≡ submitted b c
+
 not-active : OneOf (0 ∷ 2 ∷ []) (tagOf the-type Activate) → _≡_ {A = ℕ} 0 1
 not-active (inl e) = absurd (omega arith)
 not-active (inr e) = absurd (omega arith)
@@ -340,10 +338,8 @@ module _ {c : Controller} (s : Sound c) (b : Bio) {n : ℕ} (p : n ≡ placeOf b
           ap (λ (q : Decision). carried b n q c) (sym (no-leaf-decides b n (viewAt n c) refl l))
           ∙ declined-carried b c n NoLeaf ∙ no-leaf s b (sym leaf-is ∙ l)
 
-  -- where the shares stand, the leaf alone is put back
-  pub stands : {d : Controller} → r .shares ≡ Stand → d ≡ putLeaf n (r .row) (queued (r .queue) (b .id) (queueAt c n)) c
-      → _≡_ {A = Submitted} (record { answer = r .answer; state = d }) (submitted b c)
-  stands i q = staying b r n c q (rw i (inl refl)) ∙ settles (rw i (inl refl))
+  pub at-once : OneOf (0 ∷ 2 ∷ []) (tagOf the-type (r .shares)) → Carries b c n r c
+  at-once k = record { sound = s; same = e; whole = settles k }
 
   -- ---- the leaf is to become active
   module _ (i : r .shares ≡ Activate) where
@@ -363,6 +359,14 @@ module _ {c : Controller} (s : Sound c) (b : Bio) {n : ℕ} (p : n ≡ placeOf b
       pub woken-sound : Sound d
       woken-sound = rw is-entered (entering-keeps s n (rw (here leaf-found) leaf-found))
 
-      pub woken-settles : {q : Decision} → q ≡ decision b n (viewAt n d) → carried b n q d ≡ submitted b c
-      woken-settles f =
-          rw f (lands s b leaf-found (waking .cost) (found b c (here leaf-found) refl (waking .costs)) (here leaf-found) is-entered)
+      pub once-woken : {v : View} {q : Decision}
+          → v ≡ viewOf (d .leaves) (d .active) (d .donors) (d .model) (shareAt d n) (rowAt d n) (getD (d .queues) n (lengthOnly 0) .len)
+          → q ≡ decision b n v → Carries b c n q d
+      once-woken f i =
+          let again = i ∙ ap (decision b n) (seen woken-sound (at-node p (place-inside b)) f) in
+          record {
+            sound = woken-sound;
+            same = again;
+            whole =
+                rw again (lands s b leaf-found (waking .cost) (found b c (here leaf-found) refl (waking .costs)) (here leaf-found) is-entered);
+          }

@@ -10,6 +10,8 @@ use Rattle.rules.specs.Budget.{rowAt, queueAt, shareAt, endsDonation}
 use Rattle.rules.specs.Entries.{costing}
 use Rattle.rules.specs.Invariant.{SoundModel}
 use Rattle.rules.specs.declared.cost.Bio.{Bio}
+use Rattle.rules.specs.declared.cost.Model.{Model}
+use Rattle.rules.specs.declared.budget.Row.{Row}
 use Rattle.rules.specs.declared.budget.Controller.{Controller}
 use Rattle.rules.specs.declared.refusals.Refusal.{Refusal}
 use Rattle.rules.specs.declared.refusals.Refusal.the-variants.{NoLeaf}
@@ -31,16 +33,19 @@ unfoldable pub placeOf : Bio → ℕ
 placeOf b = cond (ltb (b .node) nodesMost) (b .node) 0
 
 -- what a state shows at a place
-abbrev pub viewAt : ℕ → Controller → View
-viewAt n c = record {
-  leaves = c .leaves;
-  active = c .active;
-  donors = c .donors;
-  model = c .model;
-  share = shareAt c n;
-  row = rowAt c n;
-  waiting = queueAt c n .len;
+abbrev pub viewOf : ℕ → ℕ → ℕ → Model → ℕ → Row → ℕ → View
+viewOf leaves active donors model share row waiting = record {
+  leaves = leaves;
+  active = active;
+  donors = donors;
+  model = model;
+  share = share;
+  row = row;
+  waiting = waiting;
 }
+
+abbrev pub viewAt : ℕ → Controller → View
+viewAt n c = viewOf (c .leaves) (c .active) (c .donors) (c .model) (shareAt c n) (rowAt c n) (queueAt c n .len)
 
 -- a view that a sound state can show
 pub record CanDecide (n : ℕ) (v : View) : Type 0 where

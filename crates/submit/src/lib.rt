@@ -11,7 +11,7 @@ ghost use Rattle.rules.specs.Entries.{submitted};
 ghost use Rattle.rules.specs.Invariant.{Sound, SoundQueue};
 ghost use Rattle.leaf.specs.Alone.{lengthOnly};
 ghost use Rattle.submit.specs.OnLeaf.{CanJudge, queueing, onLeaf};
-ghost use Rattle.submit.specs.Decision.{placeOf, CanDecide, sharesAfter, decision};
+ghost use Rattle.submit.specs.Decision.{placeOf, viewOf, CanDecide, sharesAfter, decision};
 use rules::budget::Controller;
 use rules::budget::Queue;
 use rules::budget::Row;
@@ -150,6 +150,29 @@ pub struct View {
     pub waiting: u8,
 }
 
+// The view of a state by its parts.
+pub fn seen(
+    leaves: u64,
+    active: u64,
+    donors: u64,
+    model: Model,
+    share: u32,
+    row: Row,
+    waiting: u8,
+) -> View
+    ensures { λ r. ⌜ r ≡ viewOf leaves active donors model share row waiting ⌝ }
+{
+    View {
+        leaves,
+        active,
+        donors,
+        model,
+        share,
+        row,
+        waiting,
+    }
+}
+
 // What a bio does to the shares of all: nothing, or its leaf is to become active before the bio is judged, or all return
 // to base shares.
 pub enum Shares {
@@ -235,36 +258,32 @@ pub fn submit(mut c: Controller, bio: Bio) -> Submitted
 {
     let node = place_of(bio);
     let model = c.model;
-    let share = c.shares[node];
     let row = c.rows[node];
-    let queue = c.queues[node];
-    let view = View {
-        leaves: c.leaves,
-        active: c.active,
-        donors: c.donors,
+    let view = seen(
+        c.leaves,
+        c.active,
+        c.donors,
         model,
-        share,
+        c.shares[node],
         row,
-        waiting: queue.len,
-    };
+        c.queues[node].len,
+    );
     let mut decided = decide(bio, node, view);
     // "1. An inactive leaf becomes active .."
     let first = decided.shares;
     if let Shares::Activate = first {
         c = controller::shares::rebased(c, sets::insert(c.active, node));
         let model = c.model;
-        let share = c.shares[node];
         let row = c.rows[node];
-        let queue = c.queues[node];
-        let view = View {
-            leaves: c.leaves,
-            active: c.active,
-            donors: c.donors,
+        let view = seen(
+            c.leaves,
+            c.active,
+            c.donors,
             model,
-            share,
+            c.shares[node],
             row,
-            waiting: queue.len,
-        };
+            c.queues[node].len,
+        );
         decided = decide(bio, node, view);
     }
     let next = decided.row;

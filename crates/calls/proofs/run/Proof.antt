@@ -76,24 +76,36 @@ run-spec =
     returns
     bio.enum-known-call
     bio.place-of-requires
-    bio.mul-share
-    bio.element-copy-out-share
     bio.mul-row
     bio.element-copy-out-row
-    bio.mul-queue
-    bio.element-copy-out-queue
+    bio.mul-seen
+    bio.element-copy-out-seen
+    bio.mul-seen-2
+    bio.element-copy-out-seen-2
+    bio.seen-requires
     bio.decide-requires
     bio.enum-told-2
+    bio.insert-requires
+    bio.base-anew-requires
+    bio.mul-row-2
+    bio.element-copy-out-row-2
+    bio.mul-seen-3
+    bio.element-copy-out-seen-3
+    bio.mul-seen-4
+    bio.element-copy-out-seen-4
+    bio.seen-requires-2
+    bio.decide-requires-2
     bio.mul-next
     bio.element-set-from-next
     bio.enum-known-queueing
-    bio.mul-queue-2
-    bio.element-copy-out-queue-2
+    bio.mul-queue
+    bio.element-copy-out-queue
     bio.joined-requires
     bio.mul-longer
     bio.element-set-from-longer
     bio.enum-told-3
-    bio.submit-requires
+    bio.enum-told-4
+    bio.base-anew-requires-2
     bio.sub-put-answer
     bio.part-put-answer-start
     bio.part-put-answer-end
@@ -103,33 +115,33 @@ run-spec =
     bio.loop-again
     tick.enum-known-call-2
     tick.verdict-requires
-    tick.enum-told-4
+    tick.enum-told-5
     tick.growth-requires
     tick.loop2-holds
     tick.lowest-requires
     tick.mul-wide
     tick.element-copy-out-wide
     tick.wide-requires
-    tick.mul-row-2
-    tick.element-copy-out-row-2
+    tick.mul-row-3
+    tick.element-copy-out-row-3
     tick.mul-settle
     tick.element-copy-out-settle
     tick.settle-requires
-    tick.mul-queue-3
-    tick.element-copy-out-queue-3
+    tick.mul-queue-2
+    tick.element-copy-out-queue-2
     tick.mul-ids
     tick.sub-released
     tick.part-ids-start
     tick.part-ids-end
     tick.released-requires
-    tick.mul-row-3
+    tick.mul-row-4
     tick.element-set-from-row
     tick.mul-c
     tick.way-write-given-c
     tick.mul-c-2
     tick.way-write-given-c-2
     tick.add-done
-    tick.mul-row-4
+    tick.mul-row-5
     tick.element-set-from-row-2
     tick.remove-requires
     tick.loop2-less
@@ -144,7 +156,7 @@ run-spec =
     tick.add-count-2
     tick.loop-less-2
     tick.loop-again-2
-    plan.enum-told-5
+    plan.enum-told-6
     plan.is-due-requires
     plan.parts-requires
     plan.restarted-requires
@@ -157,9 +169,9 @@ run-spec =
     plan.loop-again-3
     set.enum-known-call-3
     set.vrate-verdict-requires
-    set.enum-told-6
-    set.with-rate-requires
     set.enum-told-7
+    set.with-rate-requires
+    set.enum-told-8
     set.sub-put-verdict
     set.part-put-verdict-start
     set.part-put-verdict-end

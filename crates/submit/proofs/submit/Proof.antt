@@ -7,16 +7,12 @@ use native.Mathlib.Omega.{arith}
 use borrow.Author.Needs.{needs}
 use Rattle.rules.specs.Numbers.{nodesMost}
 use Rattle.rules.specs.Budget.{queueAt, putLeaf, pushed, rebased}
-use Rattle.rules.specs.Entries.{submitted}
 use Rattle.rules.specs.Invariant.{Sound}
 use Rattle.rules.specs.Laws.Refusals.{submit-on-paper}
 use Rattle.rules.specs.Laws.Resharing.{activeWith}
-use Rattle.rules.specs.declared.cost.Bio.{Bio}
-use Rattle.rules.specs.declared.budget.Controller.{Controller}
-use Rattle.submit.specs.declared.Decision.{Decision}
 use Rattle.submit.specs.OnLeaf.{queued}
 use Rattle.submit.specs.Decision.{viewAt, decision}
-use Rattle.submit.proofs.Decisions.{place-inside, queue-read, seen, can-decide, carried, joining, as-it-was, returning, staying, can-join, can-return, settles, woken-active, woken-sound, woken-settles}
+use Rattle.submit.proofs.Decisions.{place-inside, queue-read, seen, can-decide, Carries, joining, as-it-was, returning, staying, can-join, can-return, at-once, woken-active, woken-sound, once-woken}
 use Rattle.submit.proofs.submit.Statement.{statement}
 use Rattle.submit.proofs.submit.Tie as tie
 
@@ -32,7 +28,7 @@ first : (c : tie.After-decide) → let s = place c .before in let n = place c .p
     c .decide .result ≡ decision (s .args .bio) n (viewAt n (s .args .t1))
 first c =
     let s = place c .before in
-    c .decide .ensures ∙ ap (decision (s .args .bio) (place c .place-of .result)) (seen (s .pre) (small (place c)))
+    c .decide .ensures ∙ ap (decision (s .args .bio) (place c .place-of .result)) (seen (s .pre) (small (place c)) (c .before .seen .ensures))
 
 -- ---- the leaf is to become active
 abbrev woken-at : tie.After-rebased → tie.After-decide
@@ -48,11 +44,6 @@ is-sound c =
     woken-sound (p .before .pre) (p .before .args .bio) (p .place-of .ensures) (first (woken-at c)) (c .before .before .enum-told .given .1) (is-woken c)
 
 -- ---- what is carried out, and where
-record Carries (b : Bio) (c : Controller) (n : ℕ) (r : Decision) (d : Controller) : Type 0 where
-  pub sound : Sound d
-  pub same : r ≡ decision b n (viewAt n d)
-  pub whole : carried b n r d ≡ submitted b c
-
 carries : (c : tie.At-match-came) → let p = place (c .before) in
     Carries (p .before .args .bio) (p .before .args .t1) (p .place-of .result) (c .match .decided) (c .match .c)
 carries c =
@@ -68,17 +59,9 @@ carries c =
       };
       rebased = w .3;
     } in
-    let again : w .8 .result ≡ decision b (p .place-of .result) (viewAt (p .place-of .result) (w .3 .result)) =
-    w .8 .ensures ∙ ap (decision b (p .place-of .result)) (seen (is-sound woken) (small p)) in
     rw (w .9, w .10)
-    (record {
-      sound = is-sound woken;
-      same = again;
-      whole = woken-settles s b (p .place-of .ensures) (first (c .before)) (w .1 .given .1) (is-woken woken) again;
-    }))
-    (λ w.
-    rw (w .1, w .2)
-    (record { sound = s; same = first (c .before); whole = settles s b (p .place-of .ensures) (first (c .before)) (w .0 .keys2) }))
+    (once-woken s b (p .place-of .ensures) (first (c .before)) (w .1 .given .1) (is-woken woken) (w .7 .ensures) (w .8 .ensures)))
+    (λ w. rw (w .1, w .2) (at-once s b (p .place-of .ensures) (first (c .before)) (w .0 .keys2)))
     (c .match .came)
 
 -- ---- the leaf's books are put back
@@ -99,28 +82,31 @@ put-at c =
 place-of-requires : tie.Need-place-of-requires
 place-of-requires c κs = search needs
 
-mul-share : tie.Need-mul-share
-mul-share c = record { fits = omega (arith, small (c .before)) }
-
-element-copy-out-share : tie.Need-element-copy-out-share
-element-copy-out-share c = small (c .before)
-
 mul-row : tie.Need-mul-row
-mul-row c = record { fits = omega (arith, small (c .before .before)) }
+mul-row c = record { fits = omega (arith, small (c .before)) }
 
 element-copy-out-row : tie.Need-element-copy-out-row
-element-copy-out-row c = small (c .before .before)
+element-copy-out-row c = small (c .before)
 
-mul-queue : tie.Need-mul-queue
-mul-queue c = record { fits = omega (arith, small (c .before .before .before)) }
+mul-seen : tie.Need-mul-seen
+mul-seen c = record { fits = omega (arith, small (c .before .before)) }
 
-element-copy-out-queue : tie.Need-element-copy-out-queue
-element-copy-out-queue c = small (c .before .before .before)
+element-copy-out-seen : tie.Need-element-copy-out-seen
+element-copy-out-seen c = small (c .before .before)
+
+mul-seen-2 : tie.Need-mul-seen-2
+mul-seen-2 c = record { fits = omega (arith, small (c .before .before .before)) }
+
+element-copy-out-seen-2 : tie.Need-element-copy-out-seen-2
+element-copy-out-seen-2 c = small (c .before .before .before)
+
+seen-requires : tie.Need-seen-requires
+seen-requires c κs = search needs
 
 decide-requires : tie.Need-decide-requires
 decide-requires c κs =
     let p = c .before .before .before .before in
-    rw (seen (p .before .pre) (small p)) (can-decide (p .before .pre) (small p))
+    rw (seen (p .before .pre) (small p) (c .seen .ensures)) (can-decide (p .before .pre) (small p))
 
 enum-told : tie.Need-enum-told
 enum-told c = search needs
@@ -135,29 +121,32 @@ rebased-requires c κs =
     let w = woken-active (p .before .pre) (p .before .args .bio) (p .place-of .ensures) (first d) (c .before .enum-told .given .1) in
     (w .0, rw (c .insert .ensures) (w .1), w .2)
 
-mul-share-2 : tie.Need-mul-share-2
-mul-share-2 c = record { fits = omega (arith, small (place (woken-at (c .before)))) }
-
-element-copy-out-share-2 : tie.Need-element-copy-out-share-2
-element-copy-out-share-2 c = small (place (woken-at (c .before)))
-
 mul-row-2 : tie.Need-mul-row-2
-mul-row-2 c = record { fits = omega (arith, small (place (woken-at (c .before .before)))) }
+mul-row-2 c = record { fits = omega (arith, small (place (woken-at (c .before)))) }
 
 element-copy-out-row-2 : tie.Need-element-copy-out-row-2
-element-copy-out-row-2 c = small (place (woken-at (c .before .before)))
+element-copy-out-row-2 c = small (place (woken-at (c .before)))
 
-mul-queue-2 : tie.Need-mul-queue-2
-mul-queue-2 c = record { fits = omega (arith, small (place (woken-at (c .before .before .before)))) }
+mul-seen-3 : tie.Need-mul-seen-3
+mul-seen-3 c = record { fits = omega (arith, small (place (woken-at (c .before .before)))) }
 
-element-copy-out-queue-2 : tie.Need-element-copy-out-queue-2
-element-copy-out-queue-2 c = small (place (woken-at (c .before .before .before)))
+element-copy-out-seen-3 : tie.Need-element-copy-out-seen-3
+element-copy-out-seen-3 c = small (place (woken-at (c .before .before)))
+
+mul-seen-4 : tie.Need-mul-seen-4
+mul-seen-4 c = record { fits = omega (arith, small (place (woken-at (c .before .before .before)))) }
+
+element-copy-out-seen-4 : tie.Need-element-copy-out-seen-4
+element-copy-out-seen-4 c = small (place (woken-at (c .before .before .before)))
+
+seen-requires-2 : tie.Need-seen-requires-2
+seen-requires-2 c κs = search needs
 
 decide-requires-2 : tie.Need-decide-requires-2
 decide-requires-2 c κs =
     let woken = c .before .before .before .before in
     let inside = small (place (woken-at woken)) in
-    rw (seen (is-sound woken) inside) (can-decide (is-sound woken) inside)
+    rw (seen (is-sound woken) inside (c .seen2 .ensures)) (can-decide (is-sound woken) inside)
 
 mul-next : tie.Need-mul-next
 mul-next c = record { fits = omega (arith, small (place (c .before .before))) }
@@ -168,11 +157,11 @@ element-set-from-next c = small (place (c .before .before))
 enum-known-queueing : tie.Need-enum-known-queueing
 enum-known-queueing c = search needs
 
-mul-queue-3 : tie.Need-mul-queue-3
-mul-queue-3 c = record { fits = omega (arith, small (place (c .before .before .before .before .before))) }
+mul-queue : tie.Need-mul-queue
+mul-queue c = record { fits = omega (arith, small (place (c .before .before .before .before .before))) }
 
-element-copy-out-queue-3 : tie.Need-element-copy-out-queue-3
-element-copy-out-queue-3 c = small (place (c .before .before .before .before .before))
+element-copy-out-queue : tie.Need-element-copy-out-queue
+element-copy-out-queue c = small (place (c .before .before .before .before .before))
 
 joined-requires : tie.Need-joined-requires
 joined-requires c κs =
@@ -218,28 +207,30 @@ submit-spec =
     tie.close
     (tie.spec
     place-of-requires
-    mul-share
-    element-copy-out-share
     mul-row
     element-copy-out-row
-    mul-queue
-    element-copy-out-queue
+    mul-seen
+    element-copy-out-seen
+    mul-seen-2
+    element-copy-out-seen-2
+    seen-requires
     decide-requires
     enum-told
     insert-requires
     rebased-requires
-    mul-share-2
-    element-copy-out-share-2
     mul-row-2
     element-copy-out-row-2
-    mul-queue-2
-    element-copy-out-queue-2
+    mul-seen-3
+    element-copy-out-seen-3
+    mul-seen-4
+    element-copy-out-seen-4
+    seen-requires-2
     decide-requires-2
     mul-next
     element-set-from-next
     enum-known-queueing
-    mul-queue-3
-    element-copy-out-queue-3
+    mul-queue
+    element-copy-out-queue
     joined-requires
     mul-longer
     element-set-from-longer

@@ -1,17 +1,25 @@
--- `calls::run` at a bio.
+-- `calls::run` at a bio: what is decided is carried out where the state stands, in the state in which the leaf is active where
+-- it was to become so.
 -- Assumes nothing.
 use mathlib.Core.Path.{_≡_, ap, _∙_}
 use mathlib.Core.Logic.{⊎-elim}
-use Prim.Native.Nat.{_<_}
+use Prim.Native.Nat.{ℕ, _<_}
 use native.Mathlib.Omega.{arith}
 use borrow.Author.Needs.{needs}
 use Rattle.rules.specs.Numbers.{nodesMost}
-use Rattle.rules.specs.Budget.{pushed}
+use Rattle.rules.specs.Words.{noNode}
+use Rattle.rules.specs.Budget.{queueAt, withSharing, withBooks, putLeaf, pushed, rebased}
 use Rattle.rules.specs.Entries.{submitted}
+use Rattle.rules.specs.Invariant.{Sound}
 use Rattle.rules.specs.Replay.{answerLine}
+use Rattle.rules.specs.Laws.Resharing.{activeWith}
+use Rattle.rules.specs.declared.cost.Bio.{Bio}
+use Rattle.rules.specs.declared.budget.Controller.{Controller}
 use Rattle.rules.specs.declared.budget.Submitted.{Submitted}
+use Rattle.controller.proofs.Anew.{anew-put}
+use Rattle.submit.specs.OnLeaf.{queued}
 use Rattle.submit.specs.Decision.{viewAt, decision}
-use Rattle.submit.proofs.Decisions.{place-inside, queue-read, seen, can-decide, joining, as-it-was, can-join, stands}
+use Rattle.submit.proofs.Decisions.{place-inside, queue-read, seen, can-decide, Carries, joining, as-it-was, returning, staying, can-join, can-return, at-once, woken-active, woken-sound, once-woken}
 use Rattle.calls.proofs.Answered.{bio-answered}
 use Rattle.calls.proofs.Running.{bio-is-call}
 use Rattle.calls.proofs.run.Tie as tie
@@ -20,137 +28,255 @@ use Rattle.calls.proofs.run.Proof.Turn.{Inv-loop2, μ-loop2, Inv-loop, 
 pub enum-known-call : tie.Need-enum-known-call Inv-loop2 μ-loop2 Inv-loop μ-loop
 enum-known-call c = search needs
 
-abbrev pub placed : tie.After-decide Inv-loop2 μ-loop2 Inv-loop μ-loop → tie.After-place-of Inv-loop2 μ-loop2 Inv-loop μ-loop
-placed c = c .before .before .before .before .before
+-- ---- the bio, its place, and the state that it comes to
+abbrev bio-asked : tie.After-place-of Inv-loop2 μ-loop2 Inv-loop μ-loop → tie.After-call Inv-loop2 μ-loop2 Inv-loop μ-loop
+bio-asked p = p .before .before
 
-abbrev pub bio-asked : tie.After-place-of Inv-loop2 μ-loop2 Inv-loop μ-loop → tie.After-call Inv-loop2 μ-loop2 Inv-loop μ-loop
-bio-asked c = c .before .before
+abbrev bio-turn : tie.After-place-of Inv-loop2 μ-loop2 Inv-loop μ-loop → Turn
+bio-turn p = bio-asked p .before .before
 
-abbrev pub bio-turn : tie.After-place-of Inv-loop2 μ-loop2 Inv-loop μ-loop → Turn
-bio-turn c = bio-asked c .before .before
+abbrev bio-of : tie.After-place-of Inv-loop2 μ-loop2 Inv-loop μ-loop → Bio
+bio-of p = bio-asked p .call .given .0 .0
 
-pub small-at : (c : tie.After-place-of Inv-loop2 μ-loop2 Inv-loop μ-loop) → c .place-of .result < nodesMost
-small-at c = rw (c .place-of .ensures) (place-inside (bio-asked c .call .given .0 .0))
+abbrev state-of : tie.After-place-of Inv-loop2 μ-loop2 Inv-loop μ-loop → Controller
+state-of p = head (bio-turn p) .loop .c
 
-pub decided-at : (c : tie.After-decide Inv-loop2 μ-loop2 Inv-loop μ-loop) → let p = placed c in let n = p .place-of .result in
-    c .decide .result ≡ decision (bio-asked p .call .given .0 .0) n (viewAt n (head (bio-turn p) .loop .c))
-decided-at c =
-    let p = placed c in
-    c .decide .ensures
-    ∙ ap (decision (bio-asked p .call .given .0 .0) (p .place-of .result)) (seen (head (bio-turn p) .loop .inv .sound) (small-at p))
+sound-of : (p : tie.After-place-of Inv-loop2 μ-loop2 Inv-loop μ-loop) → Sound (state-of p)
+sound-of p = head (bio-turn p) .loop .inv .sound
 
--- by each way the answer and the state are the submission's: the bio joins the queue, or the queue stays, or shares change
-pub is-submitted : (m : tie.At-match2-came Inv-loop2 μ-loop2 Inv-loop μ-loop) → let p = placed (m .before) in
-    _≡_ {A = Submitted} (record { answer = m .match2 .answer; state = m .match2 .c }) (submitted (bio-asked p .call .given .0 .0) (head (bio-turn p) .loop .c))
-is-submitted m =
-    let p = placed (m .before) in
-    let b = bio-asked p .call .given .0 .0 in
-    let n = p .place-of .result in
-    let r = m .before .decide .result in
-    let s = head (bio-turn p) .loop .c in
-    let sound = head (bio-turn p) .loop .inv .sound in
+small : (p : tie.After-place-of Inv-loop2 μ-loop2 Inv-loop μ-loop) → p .place-of .result < nodesMost
+small p = rw (p .place-of .ensures) (place-inside (bio-of p))
+
+-- ---- what was decided first
+abbrev place : tie.After-decide Inv-loop2 μ-loop2 Inv-loop μ-loop → tie.After-place-of Inv-loop2 μ-loop2 Inv-loop μ-loop
+place d = d .before .before .before .before .before
+
+first : (d : tie.After-decide Inv-loop2 μ-loop2 Inv-loop μ-loop) → let p = place d in let n = p .place-of .result in
+    d .decide .result ≡ decision (bio-of p) n (viewAt n (state-of p))
+first d =
+    let p = place d in
+    d .decide .ensures ∙ ap (decision (bio-of p) (p .place-of .result)) (seen (sound-of p) (small p) (d .before .seen .ensures))
+
+-- ---- the leaf is to become active
+abbrev told-at : tie.After-base-anew Inv-loop2 μ-loop2 Inv-loop μ-loop → tie.After-enum-told2 Inv-loop2 μ-loop2 Inv-loop μ-loop
+told-at w = w .before .before .before .before .before .before
+
+abbrev woken-at : tie.After-base-anew Inv-loop2 μ-loop2 Inv-loop μ-loop → tie.After-decide Inv-loop2 μ-loop2 Inv-loop μ-loop
+woken-at w = told-at w .before .before
+
+abbrev woken : tie.After-base-anew Inv-loop2 μ-loop2 Inv-loop μ-loop → Controller
+woken w =
+    let s = state-of (place (woken-at w)) in
+    withSharing (w .before .before .before .insert .result) noNode (w .base-anew .result .shares) (withBooks (w .base-anew .result .rows) (s .queues) s)
+
+is-woken : (w : tie.After-base-anew Inv-loop2 μ-loop2 Inv-loop μ-loop) → let p = place (woken-at w) in
+    woken w ≡ rebased (activeWith (p .place-of .result) (state-of p)) (state-of p)
+is-woken w =
+    let s = state-of (place (woken-at w)) in
+    anew-put _ s (w .base-anew .ensures) ∙ ap (λ (a : ℕ). rebased a s) (w .before .before .before .insert .ensures)
+
+is-sound : (w : tie.After-base-anew Inv-loop2 μ-loop2 Inv-loop μ-loop) → Sound (woken w)
+is-sound w =
+    let p = place (woken-at w) in
+    woken-sound (sound-of p) (bio-of p) (p .place-of .ensures) (first (woken-at w)) (told-at w .enum-told2 .given .1) (is-woken w)
+
+-- ---- what is carried out, and where
+carries : (m : tie.At-match2-came Inv-loop2 μ-loop2 Inv-loop μ-loop) → let p = place (m .before) in
+    Carries (bio-of p) (state-of p) (p .place-of .result) (m .match2 .decided) (m .match2 .c)
+carries m =
+    let p = place (m .before) in
     ⊎-elim
     (λ w.
-    rw (w .8, w .9)
-    (stands sound b (p .place-of .ensures) (decided-at (m .before)) (w .1 .given .1)
-    (joining b r n s (w .4 .given .1) (w .7 .ensures ∙ ap (pushed (b .id) (w .4 .given .0 .0)) (queue-read sound (small-at p))))))
-    (λ w.
-    ⊎-elim
-    (λ v.
-    rw (v .5, v .6)
-    (stands sound b (p .place-of .ensures) (decided-at (m .before)) (v .1 .given .1) (as-it-was b r n s (v .4 .given .1))))
-    (λ v. rw (v .3, v .4) (v .1 .ensures .0))
-    w)
+    let at : tie.After-base-anew Inv-loop2 μ-loop2 Inv-loop μ-loop = record {
+      before = record {
+        before = record {
+          before = record {
+            before = record {
+              before = record {
+                before = record { before = record { before = m .before; match2 = w .0 }; enum-told2 = w .1 };
+                tree = w .2;
+              };
+              rows = w .3;
+            };
+            insert = w .4;
+          };
+          c = w .5;
+        };
+        base-anew-arg = w .6;
+      };
+      base-anew = w .7;
+    } in
+    rw (w .14, w .15)
+    (once-woken (sound-of p) (bio-of p) (p .place-of .ensures) (first (m .before)) (w .1 .given .1) (is-woken at) (w .12 .ensures) (w .13 .ensures)))
+    (λ w. rw (w .1, w .2) (at-once (sound-of p) (bio-of p) (p .place-of .ensures) (first (m .before)) (w .0 .keys2)))
     (m .match2 .came)
 
+-- ---- the leaf's books are put back
+put-at : (j : tie.At-match3-came Inv-loop2 μ-loop2 Inv-loop μ-loop) → let m = j .before .before in let p = place (m .before) in let n = p .place-of .result in let r = m .match2 .decided in
+    j .match3 .c ≡ putLeaf n (r .row) (queued (r .queue) (bio-of p .id) (queueAt (m .match2 .c) n)) (m .match2 .c)
+put-at j =
+    let m = j .before .before in
+    let p = place (m .before) in
+    let b = bio-of p in
+    let n = p .place-of .result in
+    ⊎-elim
+    (λ w.
+    w .5 ∙ joining b (m .match2 .decided) n (m .match2 .c) (w .1 .given .1)
+    (w .4 .ensures ∙ ap (pushed (b .id) (w .1 .given .0 .0)) (queue-read (carries m .sound) (small p))))
+    (λ w. w .2 ∙ as-it-was b (m .match2 .decided) n (m .match2 .c) (w .1 .given .1))
+    (j .match3 .came)
+
+-- ---- by either way the answer and the state are the submission's
+abbrev done-at : tie.At-match4-came Inv-loop2 μ-loop2 Inv-loop μ-loop → tie.At-match2-came Inv-loop2 μ-loop2 Inv-loop μ-loop
+done-at e = e .before .before .before
+
+abbrev turn-at : tie.At-match4-came Inv-loop2 μ-loop2 Inv-loop μ-loop → Turn
+turn-at e = bio-turn (place (done-at e .before))
+
+is-submitted : (e : tie.At-match4-came Inv-loop2 μ-loop2 Inv-loop μ-loop) → let m = done-at e in let p = place (m .before) in
+    _≡_ {A = Submitted} (record { answer = m .match2 .decided .answer; state = e .match4 .c }) (submitted (bio-of p) (state-of p))
+is-submitted e =
+    let m = done-at e in
+    let b = bio-of (place (m .before)) in
+    let r = m .match2 .decided in
+    ⊎-elim
+    (λ w. returning b r _ (m .match2 .c) (put-at (e .before)) (w .1 .given .1) (w .9 ∙ anew-put _ _ (w .6 .ensures)) ∙ carries m .whole)
+    (λ w. staying b r _ (m .match2 .c) (w .1 ∙ put-at (e .before)) (w .0 .keys2) ∙ carries m .whole)
+    (e .match4 .came)
+
+-- ---- the needs
 pub place-of-requires : tie.Need-place-of-requires Inv-loop2 μ-loop2 Inv-loop μ-loop
 place-of-requires c κs = search needs
 
-pub mul-share : tie.Need-mul-share Inv-loop2 μ-loop2 Inv-loop μ-loop
-mul-share c = record { fits = omega (arith, small-at (c .before)) }
-
-pub element-copy-out-share : tie.Need-element-copy-out-share Inv-loop2 μ-loop2 Inv-loop μ-loop
-element-copy-out-share c = small-at (c .before)
-
 pub mul-row : tie.Need-mul-row Inv-loop2 μ-loop2 Inv-loop μ-loop
-mul-row c = record { fits = omega (arith, small-at (c .before .before)) }
+mul-row c = record { fits = omega (arith, small (c .before)) }
 
 pub element-copy-out-row : tie.Need-element-copy-out-row Inv-loop2 μ-loop2 Inv-loop μ-loop
-element-copy-out-row c = small-at (c .before .before)
+element-copy-out-row c = small (c .before)
 
-pub mul-queue : tie.Need-mul-queue Inv-loop2 μ-loop2 Inv-loop μ-loop
-mul-queue c = record { fits = omega (arith, small-at (c .before .before .before)) }
+pub mul-seen : tie.Need-mul-seen Inv-loop2 μ-loop2 Inv-loop μ-loop
+mul-seen c = record { fits = omega (arith, small (c .before .before)) }
 
-pub element-copy-out-queue : tie.Need-element-copy-out-queue Inv-loop2 μ-loop2 Inv-loop μ-loop
-element-copy-out-queue c = small-at (c .before .before .before)
+pub element-copy-out-seen : tie.Need-element-copy-out-seen Inv-loop2 μ-loop2 Inv-loop μ-loop
+element-copy-out-seen c = small (c .before .before)
+
+pub mul-seen-2 : tie.Need-mul-seen-2 Inv-loop2 μ-loop2 Inv-loop μ-loop
+mul-seen-2 c = record { fits = omega (arith, small (c .before .before .before)) }
+
+pub element-copy-out-seen-2 : tie.Need-element-copy-out-seen-2 Inv-loop2 μ-loop2 Inv-loop μ-loop
+element-copy-out-seen-2 c = small (c .before .before .before)
+
+pub seen-requires : tie.Need-seen-requires Inv-loop2 μ-loop2 Inv-loop μ-loop
+seen-requires c κs = search needs
 
 pub decide-requires : tie.Need-decide-requires Inv-loop2 μ-loop2 Inv-loop μ-loop
 decide-requires c κs =
     let p = c .before .before .before .before in
-    let sound = head (bio-turn p) .loop .inv .sound in
-    rw (seen sound (small-at p)) (can-decide sound (small-at p))
+    rw (seen (sound-of p) (small p) (c .seen .ensures)) (can-decide (sound-of p) (small p))
 
 pub enum-told-2 : tie.Need-enum-told-2 Inv-loop2 μ-loop2 Inv-loop μ-loop
 enum-told-2 c = search needs
 
+pub insert-requires : tie.Need-insert-requires Inv-loop2 μ-loop2 Inv-loop μ-loop
+insert-requires c κs = small (place (c .before .before .before .before))
+
+pub base-anew-requires : tie.Need-base-anew-requires Inv-loop2 μ-loop2 Inv-loop μ-loop
+base-anew-requires c κs =
+    let told = c .before .before .before .before .before in
+    let d = told .before .before in
+    let p = place d in
+    let w = woken-active (sound-of p) (bio-of p) (p .place-of .ensures) (first d) (told .enum-told2 .given .1) in
+    (w .0, rw (c .before .before .insert .ensures) (w .1), w .2)
+
+pub mul-row-2 : tie.Need-mul-row-2 Inv-loop2 μ-loop2 Inv-loop μ-loop
+mul-row-2 c = record { fits = omega (arith, small (place (woken-at (c .before .before)))) }
+
+pub element-copy-out-row-2 : tie.Need-element-copy-out-row-2 Inv-loop2 μ-loop2 Inv-loop μ-loop
+element-copy-out-row-2 c = small (place (woken-at (c .before .before)))
+
+pub mul-seen-3 : tie.Need-mul-seen-3 Inv-loop2 μ-loop2 Inv-loop μ-loop
+mul-seen-3 c = record { fits = omega (arith, small (place (woken-at (c .before .before .before)))) }
+
+pub element-copy-out-seen-3 : tie.Need-element-copy-out-seen-3 Inv-loop2 μ-loop2 Inv-loop μ-loop
+element-copy-out-seen-3 c = small (place (woken-at (c .before .before .before)))
+
+pub mul-seen-4 : tie.Need-mul-seen-4 Inv-loop2 μ-loop2 Inv-loop μ-loop
+mul-seen-4 c = record { fits = omega (arith, small (place (woken-at (c .before .before .before .before)))) }
+
+pub element-copy-out-seen-4 : tie.Need-element-copy-out-seen-4 Inv-loop2 μ-loop2 Inv-loop μ-loop
+element-copy-out-seen-4 c = small (place (woken-at (c .before .before .before .before)))
+
+pub seen-requires-2 : tie.Need-seen-requires-2 Inv-loop2 μ-loop2 Inv-loop μ-loop
+seen-requires-2 c κs = search needs
+
+pub decide-requires-2 : tie.Need-decide-requires-2 Inv-loop2 μ-loop2 Inv-loop μ-loop
+decide-requires-2 c κs =
+    let w = c .before .before .before .before .before in
+    let inside = small (place (woken-at w)) in
+    rw (seen (is-sound w) inside (c .seen2 .ensures)) (can-decide (is-sound w) inside)
+
 pub mul-next : tie.Need-mul-next Inv-loop2 μ-loop2 Inv-loop μ-loop
-mul-next c = record { fits = omega (arith, small-at (placed (c .before .before .before))) }
+mul-next c = record { fits = omega (arith, small (place (c .before .before))) }
 
 pub element-set-from-next : tie.Need-element-set-from-next Inv-loop2 μ-loop2 Inv-loop μ-loop
-element-set-from-next c = small-at (placed (c .before .before .before))
+element-set-from-next c = small (place (c .before .before))
 
 pub enum-known-queueing : tie.Need-enum-known-queueing Inv-loop2 μ-loop2 Inv-loop μ-loop
 enum-known-queueing c = search needs
 
-pub mul-queue-2 : tie.Need-mul-queue-2 Inv-loop2 μ-loop2 Inv-loop μ-loop
-mul-queue-2 c = record { fits = omega (arith, small-at (placed (c .before .before .before .before .before .before))) }
+pub mul-queue : tie.Need-mul-queue Inv-loop2 μ-loop2 Inv-loop μ-loop
+mul-queue c = record { fits = omega (arith, small (place (c .before .before .before .before .before))) }
 
-pub element-copy-out-queue-2 : tie.Need-element-copy-out-queue-2 Inv-loop2 μ-loop2 Inv-loop μ-loop
-element-copy-out-queue-2 c = small-at (placed (c .before .before .before .before .before .before))
+pub element-copy-out-queue : tie.Need-element-copy-out-queue Inv-loop2 μ-loop2 Inv-loop μ-loop
+element-copy-out-queue c = small (place (c .before .before .before .before .before))
 
 pub joined-requires : tie.Need-joined-requires Inv-loop2 μ-loop2 Inv-loop μ-loop
 joined-requires c κs =
     let told = c .before .before in
-    let d = told .before .before .before .before .before in
-    let p = placed d in
-    can-join (head (bio-turn p) .loop .inv .sound) _ (p .place-of .ensures) (decided-at d) (told .queueing .given .1)
+    let m = told .before .before .before in
+    can-join (carries m .sound) _ (place (m .before) .place-of .ensures) (carries m .same) (told .queueing .given .1)
 
 pub mul-longer : tie.Need-mul-longer Inv-loop2 μ-loop2 Inv-loop μ-loop
-mul-longer c = record { fits = omega (arith, small-at (placed (c .before .before .before .before .before .before .before .before))) }
+mul-longer c = record { fits = omega (arith, small (place (c .before .before .before .before .before .before .before))) }
 
 pub element-set-from-longer : tie.Need-element-set-from-longer Inv-loop2 μ-loop2 Inv-loop μ-loop
-element-set-from-longer c = small-at (placed (c .before .before .before .before .before .before .before .before))
+element-set-from-longer c = small (place (c .before .before .before .before .before .before .before))
 
 pub enum-told-3 : tie.Need-enum-told-3 Inv-loop2 μ-loop2 Inv-loop μ-loop
 enum-told-3 c = search needs
 
-pub submit-requires : tie.Need-submit-requires Inv-loop2 μ-loop2 Inv-loop μ-loop
-submit-requires c κs = head (bio-turn (placed (c .before))) .loop .inv .sound
+pub enum-told-4 : tie.Need-enum-told-4 Inv-loop2 μ-loop2 Inv-loop μ-loop
+enum-told-4 c = search needs
+
+pub base-anew-requires-2 : tie.Need-base-anew-requires-2 Inv-loop2 μ-loop2 Inv-loop μ-loop
+base-anew-requires-2 c κs =
+    let put = c .before .before .before .before .before .before in
+    let m = put .before .before in
+    can-return (carries m .sound) _ (place (m .before) .place-of .ensures) (carries m .same) (put-at put)
 
 pub sub-put-answer : tie.Need-sub-put-answer Inv-loop2 μ-loop2 Inv-loop μ-loop
-sub-put-answer c = left-at (bio-turn (placed (c .before)))
+sub-put-answer c = left-at (turn-at c)
 
 pub part-put-answer-start : tie.Need-part-put-answer-start Inv-loop2 μ-loop2 Inv-loop μ-loop
-part-put-answer-start c = left-at (bio-turn (placed (c .before)))
+part-put-answer-start c = left-at (turn-at c)
 
 pub part-put-answer-end : tie.Need-part-put-answer-end Inv-loop2 μ-loop2 Inv-loop μ-loop
 part-put-answer-end c = search needs
 
 pub put-answer-requires : tie.Need-put-answer-requires Inv-loop2 μ-loop2 Inv-loop μ-loop
-put-answer-requires c κs = room-at (bio-turn (placed (c .before .before))) 13 (omega arith)
+put-answer-requires c κs = room-at (turn-at (c .before)) 13 (omega arith)
 
 pub add-count : tie.Need-add-count Inv-loop2 μ-loop2 Inv-loop μ-loop
 add-count c =
     let put = c .before .before in
-    count-at (bio-turn (placed (put .before .before .before))) (answerLine _ _) (put .put-answer .ensures) (put .put-answer .kept .1 .1 .0)
+    count-at (turn-at (put .before .before)) (answerLine _ _) (put .put-answer .ensures) (put .put-answer .kept .1 .1 .0)
 
 pub loop-less : tie.Need-loop-less Inv-loop2 μ-loop2 Inv-loop μ-loop
-loop-less c = less-at (bio-turn (placed (c .before .before .before .before .before)))
+loop-less c = less-at (turn-at (c .before .before .before .before))
 
 pub loop-again : tie.Need-loop-again Inv-loop2 μ-loop2 Inv-loop μ-loop
 loop-again c =
     let put = c .before .before in
-    let came = put .before .before in
-    let p = placed (came .before) in
-    again-at (bio-turn p) _ (bio-asked p .call .given .1) (bio-is-call _) _
-    (bio-answered _ _ _ _ (is-submitted came) (put .put-answer .ensures)) (put .put-answer .kept .1 .1 .0) (head (bio-turn p) .loop .inv .places)
+    let e = put .before .before in
+    again-at (turn-at e) _ (bio-asked (place (done-at e .before)) .call .given .1) (bio-is-call _) _
+    (bio-answered _ _ _ _ (is-submitted e) (put .put-answer .ensures)) (put .put-answer .kept .1 .1 .0) (head (turn-at e) .loop .inv .places)

@@ -13,17 +13,17 @@ use Rattle.calls.proofs.Running.{plan-is-call}
 use Rattle.calls.proofs.run.Tie as tie
 use Rattle.calls.proofs.run.Proof.Turn.{Inv-loop2, μ-loop2, Inv-loop, μ-loop, Turn, head, left-at, room-at, less-at, count-at, again-at}
 
-pub enum-told-5 : tie.Need-enum-told-5 Inv-loop2 μ-loop2 Inv-loop μ-loop
-enum-told-5 c = search needs
+pub enum-told-6 : tie.Need-enum-told-6 Inv-loop2 μ-loop2 Inv-loop μ-loop
+enum-told-6 c = search needs
 
-abbrev pub plan-asked : tie.After-is-due Inv-loop2 μ-loop2 Inv-loop μ-loop → tie.After-enum-told5 Inv-loop2 μ-loop2 Inv-loop μ-loop
+abbrev plan-asked : tie.After-is-due Inv-loop2 μ-loop2 Inv-loop μ-loop → tie.After-enum-told6 Inv-loop2 μ-loop2 Inv-loop μ-loop
 plan-asked d = d .before .before
 
-abbrev pub plan-turn : tie.After-is-due Inv-loop2 μ-loop2 Inv-loop μ-loop → Turn
+abbrev plan-turn : tie.After-is-due Inv-loop2 μ-loop2 Inv-loop μ-loop → Turn
 plan-turn d = plan-asked d .before .before
 
 -- by either way the answer and the state are the plan's
-pub is-planned : (j : tie.Joined2 Inv-loop2 μ-loop2 Inv-loop μ-loop) →
+is-planned : (j : tie.Joined2 Inv-loop2 μ-loop2 Inv-loop μ-loop) →
     _≡_ {A = Outcome} (record { answer = j .if2 .answer; state = j .if2 .c }) (planned (head (plan-turn (j .before)) .loop .c))
 is-planned j =
     let d = j .before in
@@ -69,5 +69,5 @@ pub loop-again-3 : tie.Need-loop-again-3 Inv-loop2 μ-loop2 Inv-loop μ-loop
 loop-again-3 c =
     let put = c .before .before in
     let j = put .before .before .before .before in
-    again-at (plan-turn (j .before)) _ (plan-asked (j .before) .enum-told5 .given .1) plan-is-call _
+    again-at (plan-turn (j .before)) _ (plan-asked (j .before) .enum-told6 .given .1) plan-is-call _
     (plan-answered _ _ _ (is-planned j) (put .put-planned .ensures)) (put .put-planned .kept .1 .1 .1 .0) (head (plan-turn (j .before)) .loop .inv .places)

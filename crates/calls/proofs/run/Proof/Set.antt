@@ -23,24 +23,24 @@ abbrev set-turn : tie.After-vrate-verdict Inv-loop2 μ-loop2 Inv-loop μ-loop �
 set-turn v = set-asked v .before .before
 
 -- by either way the state is the setting's
-is-set : (m : tie.At-match5-came Inv-loop2 μ-loop2 Inv-loop μ-loop) → let v = m .before in
-    _≡_ {A = Outcome} (record { answer = v .vrate-verdict .result; state = m .match5 .c }) (setBy (set-asked v .call3 .given .0 .0) (head (set-turn v) .loop .c))
+is-set : (m : tie.At-match6-came Inv-loop2 μ-loop2 Inv-loop μ-loop) → let v = m .before in
+    _≡_ {A = Outcome} (record { answer = v .vrate-verdict .result; state = m .match6 .c }) (setBy (set-asked v .call3 .given .0 .0) (head (set-turn v) .loop .c))
 is-set m =
     let judged = m .before .vrate-verdict .ensures in
     ⊎-elim (λ w. rw (w .4) (rate-set _ _ judged (w .1 .given .1) (w .3 .ensures))) (λ w. rw (w .2) (rate-kept _ _ judged (w .1 .given .1)))
-    (m .match5 .came)
+    (m .match6 .came)
 
 pub vrate-verdict-requires : tie.Need-vrate-verdict-requires Inv-loop2 μ-loop2 Inv-loop μ-loop
 vrate-verdict-requires c κs = search needs
 
-pub enum-told-6 : tie.Need-enum-told-6 Inv-loop2 μ-loop2 Inv-loop μ-loop
-enum-told-6 c = search needs
+pub enum-told-7 : tie.Need-enum-told-7 Inv-loop2 μ-loop2 Inv-loop μ-loop
+enum-told-7 c = search needs
 
 pub with-rate-requires : tie.Need-with-rate-requires Inv-loop2 μ-loop2 Inv-loop μ-loop
 with-rate-requires c κs = search needs
 
-pub enum-told-7 : tie.Need-enum-told-7 Inv-loop2 μ-loop2 Inv-loop μ-loop
-enum-told-7 c = search needs
+pub enum-told-8 : tie.Need-enum-told-8 Inv-loop2 μ-loop2 Inv-loop μ-loop
+enum-told-8 c = search needs
 
 pub sub-put-verdict : tie.Need-sub-put-verdict Inv-loop2 μ-loop2 Inv-loop μ-loop
 sub-put-verdict c = left-at (set-turn (c .before))

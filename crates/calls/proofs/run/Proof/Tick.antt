@@ -33,13 +33,13 @@ use Rattle.calls.proofs.run.Proof.Turn.{Inv-loop2, μ-loop2, Inv-loop, 
 pub enum-known-call-2 : tie.Need-enum-known-call-2 Inv-loop2 μ-loop2 Inv-loop μ-loop
 enum-known-call-2 c = search needs
 
-abbrev pub tick-asked : tie.After-verdict Inv-loop2 μ-loop2 Inv-loop μ-loop → tie.After-call2 Inv-loop2 μ-loop2 Inv-loop μ-loop
+abbrev tick-asked : tie.After-verdict Inv-loop2 μ-loop2 Inv-loop μ-loop → tie.After-call2 Inv-loop2 μ-loop2 Inv-loop μ-loop
 tick-asked v = v .before .before .before
 
-abbrev pub tick-turn : tie.After-verdict Inv-loop2 μ-loop2 Inv-loop μ-loop → Turn
+abbrev tick-turn : tie.After-verdict Inv-loop2 μ-loop2 Inv-loop μ-loop → Turn
 tick-turn v = tick-asked v .before .before
 
-abbrev pub judged-at : tie.After-growth Inv-loop2 μ-loop2 Inv-loop μ-loop → tie.After-verdict Inv-loop2 μ-loop2 Inv-loop μ-loop
+abbrev judged-at : tie.After-growth Inv-loop2 μ-loop2 Inv-loop μ-loop → tie.After-verdict Inv-loop2 μ-loop2 Inv-loop μ-loop
 judged-at g = g .before .before .before
 
 -- the buffer as it comes, with a place for each bio that can wait
@@ -50,20 +50,20 @@ lent-long : (v : tie.After-verdict Inv-loop2 μ-loop2 Inv-loop μ-loop) → leng
 lent-long v = head (tick-turn v) .loop .inv .places
 
 -- all that can wait has a place, so that a tick which the clock passes is accepted
-pub accepted-at : (c : tie.After-enum-told4 Inv-loop2 μ-loop2 Inv-loop μ-loop) → let v = c .before .before in
+accepted-at : (c : tie.After-enum-told5 Inv-loop2 μ-loop2 Inv-loop μ-loop) → let v = c .before .before in
     firstOf (tickChecks (tick-asked v .call2 .given .0 .0) (length (lent-at v)) (head (tick-turn v) .loop .c)) ≡ Accepted
 accepted-at c =
     let v = c .before .before in
     let room : waitingAll (head (tick-turn v) .loop .c) ≤ length (lent-at v) = rw (lent-long v) (waiting-small (head (tick-turn v) .loop .inv .sound)) in
-    enough-places (tick-asked v .call2 .given .0 .0) (length (lent-at v)) (head (tick-turn v) .loop .c) (v .verdict .ensures) (c .enum-told4 .given .1) refl room
+    enough-places (tick-asked v .call2 .given .0 .0) (length (lent-at v)) (head (tick-turn v) .loop .c) (v .verdict .ensures) (c .enum-told5 .given .1) refl room
 
-pub passing : (c : tie.After-enum-told4 Inv-loop2 μ-loop2 Inv-loop μ-loop) → let v = c .before .before in
+passing : (c : tie.After-enum-told5 Inv-loop2 μ-loop2 Inv-loop μ-loop) → let v = c .before .before in
     TickPasses (tick-asked v .call2 .given .0 .0) (length (lent-at v)) (head (tick-turn v) .loop .c)
 passing c = tick-passes _ _ _ (accepted-at c)
 
 -- by either way the answer, the state and the ids are the tick's
-pub is-ticked : (m : tie.At-match4-came Inv-loop2 μ-loop2 Inv-loop μ-loop) → let v = m .before in let time = tick-asked v .call2 .given .0 .0 in let d = head (tick-turn v) .loop .c in
-    (_≡_ {A = Ticked} (record { answer = m .match4 .answer; state = m .match4 .c }) (ticked time (lent-at v) d)) × (m .match4 .ids ≡ lentOf time (lent-at v) d)
+is-ticked : (m : tie.At-match5-came Inv-loop2 μ-loop2 Inv-loop μ-loop) → let v = m .before in let time = tick-asked v .call2 .given .0 .0 in let d = head (tick-turn v) .loop .c in
+    (_≡_ {A = Ticked} (record { answer = m .match5 .answer; state = m .match5 .c }) (ticked time (lent-at v) d)) × (m .match5 .ids ≡ lentOf time (lent-at v) d)
 is-ticked m =
     let v = m .before in
     let time = tick-asked v .call2 .given .0 .0 in
@@ -72,18 +72,18 @@ is-ticked m =
     ⊎-elim
     (λ w.
     rw (w .6, w .7, w .8)
-    (accepts time (lent-at v) d (accepted-at (record { before = record { before = v; match4 = w .0 }; enum-told4 = w .1 }))
+    (accepts time (lent-at v) d (accepted-at (record { before = record { before = v; match5 = w .0 }; enum-told5 = w .1 }))
     (over sound time (w .2 .ensures) (w .3 .inv) (omega (arith, w .4 .left))
     (w .5 .ensures ∙ ap (advanced time) (sym (ap (λ (k : Controller). k .clock) (w .3 .inv .going .rest)))))))
     (λ w.
     rw (w .3, w .4, w .5) (refuses time (lent-at v) d (clock-refuses time (length (lent-at v)) d (v .verdict .ensures) (w .1 .given .1))))
-    (m .match4 .came)
+    (m .match5 .came)
 
 pub verdict-requires : tie.Need-verdict-requires Inv-loop2 μ-loop2 Inv-loop μ-loop
 verdict-requires c κs = head (c .before .before .before .before) .loop .inv .sound .clock
 
-pub enum-told-4 : tie.Need-enum-told-4 Inv-loop2 μ-loop2 Inv-loop μ-loop
-enum-told-4 c = search needs
+pub enum-told-5 : tie.Need-enum-told-5 Inv-loop2 μ-loop2 Inv-loop μ-loop
+enum-told-5 c = search needs
 
 pub growth-requires : tie.Need-growth-requires Inv-loop2 μ-loop2 Inv-loop μ-loop
 growth-requires c κs = passing-is-near (head (tick-turn (c .before .before)) .loop .inv .sound) (passing c)
@@ -92,26 +92,26 @@ pub loop2-holds : tie.Need-loop2-holds Inv-loop2 μ-loop2 Inv-loop μ-loop
 loop2-holds c = begins (head (tick-turn (judged-at c)) .loop .inv .sound) (c .growth .result) _
 
 -- where a leaf's turn begins
-abbrev pub walk-at : tie.After-lowest Inv-loop2 μ-loop2 Inv-loop μ-loop → tie.At-loop2 Inv-loop2 μ-loop2 Inv-loop μ-loop
+abbrev walk-at : tie.After-lowest Inv-loop2 μ-loop2 Inv-loop μ-loop → tie.At-loop2 Inv-loop2 μ-loop2 Inv-loop μ-loop
 walk-at n = n .before .before
 
-pub sound-at : (l : tie.At-loop2 Inv-loop2 μ-loop2 Inv-loop μ-loop) → Sound (head (tick-turn (judged-at (l .before))) .loop .c)
+sound-at : (l : tie.At-loop2 Inv-loop2 μ-loop2 Inv-loop μ-loop) → Sound (head (tick-turn (judged-at (l .before))) .loop .c)
 sound-at l = head (tick-turn (judged-at (l .before))) .loop .inv .sound
 
-pub gain-small : (l : tie.At-loop2 Inv-loop2 μ-loop2 Inv-loop μ-loop) → l .before .growth .result .0 ≤ gainMost
+gain-small : (l : tie.At-loop2 Inv-loop2 μ-loop2 Inv-loop μ-loop) → l .before .growth .result .0 ≤ gainMost
 gain-small l = grown-small (passing-is-near (sound-at l) (passing (l .before .before))) (l .before .growth .ensures)
 
 -- the buffer has 504 places, and what is lent of it and comes back is counted by that
-pub ids-long : (l : tie.At-loop2 Inv-loop2 μ-loop2 Inv-loop μ-loop) → length (l .loop2 .ids) ≡ 504
+ids-long : (l : tie.At-loop2 Inv-loop2 μ-loop2 Inv-loop μ-loop) → length (l .loop2 .ids) ≡ 504
 ids-long l = stands-kept (l .loop2 .inv .going .front) ∙ lent-long (judged-at (l .before))
 
-pub stands-at : (l : tie.At-loop2 Inv-loop2 μ-loop2 Inv-loop μ-loop) → l .loop2 .done ≤ 504
+stands-at : (l : tie.At-loop2 Inv-loop2 μ-loop2 Inv-loop μ-loop) → l .loop2 .done ≤ 504
 stands-at l = omega (arith, ids-long l, stands-left (l .loop2 .inv .going .front))
 
-pub rest-at : (l : tie.At-loop2 Inv-loop2 μ-loop2 Inv-loop μ-loop) → restOf (l .loop2 .ids) (l .loop2 .done) ≡ take (504 - l .loop2 .done) (drop (l .loop2 .done) (l .loop2 .ids))
+rest-at : (l : tie.At-loop2 Inv-loop2 μ-loop2 Inv-loop μ-loop) → restOf (l .loop2 .ids) (l .loop2 .done) ≡ take (504 - l .loop2 .done) (drop (l .loop2 .done) (l .loop2 .ids))
 rest-at l = ap (λ (k : ℕ). take (k - l .loop2 .done) (drop (l .loop2 .done) (l .loop2 .ids))) (ids-long l)
 
-pub back-at : (l : tie.At-loop2 Inv-loop2 μ-loop2 Inv-loop μ-loop) {ys xs zs : List ℕ} → ys ≡ xs
+back-at : (l : tie.At-loop2 Inv-loop2 μ-loop2 Inv-loop μ-loop) {ys xs zs : List ℕ} → ys ≡ xs
     → zs ≡ take (l .loop2 .done) (l .loop2 .ids) ++ (ys ++ drop (504 - l .loop2 .done) (drop (l .loop2 .done) (l .loop2 .ids))) → zs ≡ putBack (l .loop2 .ids) (l .loop2 .done) ys
 back-at l {ys} e z =
     z ∙ ap (λ (k : ℕ). take (l .loop2 .done) (l .loop2 .ids) ++ (ys ++ drop (k - l .loop2 .done) (drop (l .loop2 .done) (l .loop2 .ids)))) (sym (ids-long l))
@@ -128,11 +128,11 @@ element-copy-out-wide c = c .lowest .ensures .node
 pub wide-requires : tie.Need-wide-requires Inv-loop2 μ-loop2 Inv-loop μ-loop
 wide-requires c κs = search needs
 
-pub mul-row-2 : tie.Need-mul-row-2 Inv-loop2 μ-loop2 Inv-loop μ-loop
-mul-row-2 c = record { fits = omega (arith, c .before .before .lowest .ensures .node) }
+pub mul-row-3 : tie.Need-mul-row-3 Inv-loop2 μ-loop2 Inv-loop μ-loop
+mul-row-3 c = record { fits = omega (arith, c .before .before .lowest .ensures .node) }
 
-pub element-copy-out-row-2 : tie.Need-element-copy-out-row-2 Inv-loop2 μ-loop2 Inv-loop μ-loop
-element-copy-out-row-2 c = c .before .before .lowest .ensures .node
+pub element-copy-out-row-3 : tie.Need-element-copy-out-row-3 Inv-loop2 μ-loop2 Inv-loop μ-loop
+element-copy-out-row-3 c = c .before .before .lowest .ensures .node
 
 pub mul-settle : tie.Need-mul-settle Inv-loop2 μ-loop2 Inv-loop μ-loop
 mul-settle c = record { fits = omega (arith, c .before .before .before .lowest .ensures .node) }
@@ -146,11 +146,11 @@ settle-requires c κs =
     let at = walk-at node in
     row-fits (sound-at at) (at .before .growth .result) (at .loop2 .inv) (node .lowest .ensures) (c .before .wide .ensures) (gain-small at)
 
-pub mul-queue-3 : tie.Need-mul-queue-3 Inv-loop2 μ-loop2 Inv-loop μ-loop
-mul-queue-3 c = record { fits = omega (arith, c .before .before .before .before .before .before .lowest .ensures .node) }
+pub mul-queue-2 : tie.Need-mul-queue-2 Inv-loop2 μ-loop2 Inv-loop μ-loop
+mul-queue-2 c = record { fits = omega (arith, c .before .before .before .before .before .before .lowest .ensures .node) }
 
-pub element-copy-out-queue-3 : tie.Need-element-copy-out-queue-3 Inv-loop2 μ-loop2 Inv-loop μ-loop
-element-copy-out-queue-3 c = c .before .before .before .before .before .before .lowest .ensures .node
+pub element-copy-out-queue-2 : tie.Need-element-copy-out-queue-2 Inv-loop2 μ-loop2 Inv-loop μ-loop
+element-copy-out-queue-2 c = c .before .before .before .before .before .before .lowest .ensures .node
 
 pub mul-ids : tie.Need-mul-ids Inv-loop2 μ-loop2 Inv-loop μ-loop
 mul-ids c = record { fits = omega (arith, stands-at (walk-at (c .before .before .before .before .before .before .before))) }
@@ -176,8 +176,8 @@ released-requires c κs =
     (settled .settle .ensures) (test .if1 .taken) (passing (at .before .before) .room) (gain-small at) in
     (fits .0, subst (λ (xs : List ℕ). getD (at .loop2 .c .queues) (node .lowest .result) (lengthOnly 0) .len ≤ length xs) (rest-at at) (fits .1))
 
-pub mul-row-3 : tie.Need-mul-row-3 Inv-loop2 μ-loop2 Inv-loop μ-loop
-mul-row-3 c = record { fits = omega (arith, c .before .before .before .before .before .before .before .before .before .before .before .lowest .ensures .node) }
+pub mul-row-4 : tie.Need-mul-row-4 Inv-loop2 μ-loop2 Inv-loop μ-loop
+mul-row-4 c = record { fits = omega (arith, c .before .before .before .before .before .before .before .before .before .before .before .lowest .ensures .node) }
 
 pub element-set-from-row : tie.Need-element-set-from-row Inv-loop2 μ-loop2 Inv-loop μ-loop
 element-set-from-row c = c .before .before .before .before .before .before .before .before .before .before .before .lowest .ensures .node
@@ -208,8 +208,8 @@ add-done c =
     (released .released .ensures .0, released .released .ensures .1 ∙ ap (lentAfter _) (sym (rest-at at))) in
     record { fits = omega (arith, fits, lent-long (judged-at (at .before))) }
 
-pub mul-row-4 : tie.Need-mul-row-4 Inv-loop2 μ-loop2 Inv-loop μ-loop
-mul-row-4 c = record { fits = omega (arith, c .before .before .before .before .before .before .lowest .ensures .node) }
+pub mul-row-5 : tie.Need-mul-row-5 Inv-loop2 μ-loop2 Inv-loop μ-loop
+mul-row-5 c = record { fits = omega (arith, c .before .before .before .before .before .before .lowest .ensures .node) }
 
 pub element-set-from-row-2 : tie.Need-element-set-from-row-2 Inv-loop2 μ-loop2 Inv-loop μ-loop
 element-set-from-row-2 c = c .before .before .before .before .before .before .lowest .ensures .node
@@ -248,8 +248,8 @@ advanced-requires c κs =
 pub enum-known-verdict : tie.Need-enum-known-verdict Inv-loop2 μ-loop2 Inv-loop μ-loop
 enum-known-verdict c = search needs
 
-pub ids-kept : (m : tie.At-match4-came Inv-loop2 μ-loop2 Inv-loop μ-loop) → length (m .match4 .ids) ≡ 504
-ids-kept m = ⊎-elim (λ w. rw (w .7) (ids-long (record { before = record { before = record { before = record { before = m .before; match4 = w .0 }; enum-told4 = w .1 }; growth = w .2 }; loop2 = w .3 }))) (λ w. rw (w .4) (lent-long (m .before))) (m .match4 .came)
+ids-kept : (m : tie.At-match5-came Inv-loop2 μ-loop2 Inv-loop μ-loop) → length (m .match5 .ids) ≡ 504
+ids-kept m = ⊎-elim (λ w. rw (w .7) (ids-long (record { before = record { before = record { before = record { before = m .before; match5 = w .0 }; enum-told5 = w .1 }; growth = w .2 }; loop2 = w .3 }))) (λ w. rw (w .4) (lent-long (m .before))) (m .match5 .came)
 
 pub slice-aggregate-put-ticked : tie.Need-slice-aggregate-put-ticked Inv-loop2 μ-loop2 Inv-loop μ-loop
 slice-aggregate-put-ticked c = sym (ids-kept (c .before))
