@@ -155,16 +155,10 @@ pub fn run(mut c: Controller, trace: &[u8], place: usize, most: usize, out: &mut
                 // do the shares and the budgets of all.
                 let node = submit::place_of(bio);
                 let model = c.model;
+                let share = c.shares[node];
                 let row = c.rows[node];
-                let view = seen(
-                    c.leaves,
-                    c.active,
-                    c.donors,
-                    model,
-                    c.shares[node],
-                    row,
-                    c.queues[node].len,
-                );
+                let waiting = c.queues[node].len;
+                let view = seen(c.leaves, c.active, c.donors, model, share, row, waiting);
                 let mut decided = submit::decide(bio, node, view);
                 let first = decided.shares;
                 if let Shares::Activate = first {
@@ -178,16 +172,10 @@ pub fn run(mut c: Controller, trace: &[u8], place: usize, most: usize, out: &mut
                     c.donors = 0;
                     c.shares = shares;
                     c.rows = rows;
+                    let share = c.shares[node];
                     let row = c.rows[node];
-                    let view = seen(
-                        c.leaves,
-                        c.active,
-                        c.donors,
-                        model,
-                        c.shares[node],
-                        row,
-                        c.queues[node].len,
-                    );
+                    let waiting = c.queues[node].len;
+                    let view = seen(c.leaves, c.active, c.donors, model, share, row, waiting);
                     decided = submit::decide(bio, node, view);
                 }
                 let next = decided.row;

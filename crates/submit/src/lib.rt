@@ -258,32 +258,20 @@ pub fn submit(mut c: Controller, bio: Bio) -> Submitted
 {
     let node = place_of(bio);
     let model = c.model;
+    let share = c.shares[node];
     let row = c.rows[node];
-    let view = seen(
-        c.leaves,
-        c.active,
-        c.donors,
-        model,
-        c.shares[node],
-        row,
-        c.queues[node].len,
-    );
+    let waiting = c.queues[node].len;
+    let view = seen(c.leaves, c.active, c.donors, model, share, row, waiting);
     let mut decided = decide(bio, node, view);
     // "1. An inactive leaf becomes active .."
     let first = decided.shares;
     if let Shares::Activate = first {
         c = controller::shares::rebased(c, sets::insert(c.active, node));
         let model = c.model;
+        let share = c.shares[node];
         let row = c.rows[node];
-        let view = seen(
-            c.leaves,
-            c.active,
-            c.donors,
-            model,
-            c.shares[node],
-            row,
-            c.queues[node].len,
-        );
+        let waiting = c.queues[node].len;
+        let view = seen(c.leaves, c.active, c.donors, model, share, row, waiting);
         decided = decide(bio, node, view);
     }
     let next = decided.row;

@@ -76,23 +76,23 @@ run-spec =
     returns
     bio.enum-known-call
     bio.place-of-requires
+    bio.mul-share
+    bio.element-copy-out-share
     bio.mul-row
     bio.element-copy-out-row
-    bio.mul-seen
-    bio.element-copy-out-seen
-    bio.mul-seen-2
-    bio.element-copy-out-seen-2
+    bio.mul-waiting
+    bio.element-copy-out-waiting
     bio.seen-requires
     bio.decide-requires
     bio.enum-told-2
     bio.insert-requires
     bio.base-anew-requires
+    bio.mul-share-2
+    bio.element-copy-out-share-2
     bio.mul-row-2
     bio.element-copy-out-row-2
-    bio.mul-seen-3
-    bio.element-copy-out-seen-3
-    bio.mul-seen-4
-    bio.element-copy-out-seen-4
+    bio.mul-waiting-2
+    bio.element-copy-out-waiting-2
     bio.seen-requires-2
     bio.decide-requires-2
     bio.mul-next
@@ -158,6 +158,13 @@ run-spec =
     tick.loop-again-2
     plan.enum-told-6
     plan.is-due-requires
+    plan.loop3-holds
+    plan.mul-waiting-3
+    plan.element-copy-out-waiting-3
+    plan.array-write-waiting
+    plan.add-n
+    plan.loop3-less
+    plan.loop3-again
     plan.parts-requires
     plan.restarted-requires
     plan.sub-put-planned

@@ -82,23 +82,23 @@ put-at c =
 place-of-requires : tie.Need-place-of-requires
 place-of-requires c κs = search needs
 
+mul-share : tie.Need-mul-share
+mul-share c = record { fits = omega (arith, small (c .before)) }
+
+element-copy-out-share : tie.Need-element-copy-out-share
+element-copy-out-share c = small (c .before)
+
 mul-row : tie.Need-mul-row
-mul-row c = record { fits = omega (arith, small (c .before)) }
+mul-row c = record { fits = omega (arith, small (c .before .before)) }
 
 element-copy-out-row : tie.Need-element-copy-out-row
-element-copy-out-row c = small (c .before)
+element-copy-out-row c = small (c .before .before)
 
-mul-seen : tie.Need-mul-seen
-mul-seen c = record { fits = omega (arith, small (c .before .before)) }
+mul-waiting : tie.Need-mul-waiting
+mul-waiting c = record { fits = omega (arith, small (c .before .before .before)) }
 
-element-copy-out-seen : tie.Need-element-copy-out-seen
-element-copy-out-seen c = small (c .before .before)
-
-mul-seen-2 : tie.Need-mul-seen-2
-mul-seen-2 c = record { fits = omega (arith, small (c .before .before .before)) }
-
-element-copy-out-seen-2 : tie.Need-element-copy-out-seen-2
-element-copy-out-seen-2 c = small (c .before .before .before)
+element-copy-out-waiting : tie.Need-element-copy-out-waiting
+element-copy-out-waiting c = small (c .before .before .before)
 
 seen-requires : tie.Need-seen-requires
 seen-requires c κs = search needs
@@ -121,23 +121,23 @@ rebased-requires c κs =
     let w = woken-active (p .before .pre) (p .before .args .bio) (p .place-of .ensures) (first d) (c .before .enum-told .given .1) in
     (w .0, rw (c .insert .ensures) (w .1), w .2)
 
+mul-share-2 : tie.Need-mul-share-2
+mul-share-2 c = record { fits = omega (arith, small (place (woken-at (c .before)))) }
+
+element-copy-out-share-2 : tie.Need-element-copy-out-share-2
+element-copy-out-share-2 c = small (place (woken-at (c .before)))
+
 mul-row-2 : tie.Need-mul-row-2
-mul-row-2 c = record { fits = omega (arith, small (place (woken-at (c .before)))) }
+mul-row-2 c = record { fits = omega (arith, small (place (woken-at (c .before .before)))) }
 
 element-copy-out-row-2 : tie.Need-element-copy-out-row-2
-element-copy-out-row-2 c = small (place (woken-at (c .before)))
+element-copy-out-row-2 c = small (place (woken-at (c .before .before)))
 
-mul-seen-3 : tie.Need-mul-seen-3
-mul-seen-3 c = record { fits = omega (arith, small (place (woken-at (c .before .before)))) }
+mul-waiting-2 : tie.Need-mul-waiting-2
+mul-waiting-2 c = record { fits = omega (arith, small (place (woken-at (c .before .before .before)))) }
 
-element-copy-out-seen-3 : tie.Need-element-copy-out-seen-3
-element-copy-out-seen-3 c = small (place (woken-at (c .before .before)))
-
-mul-seen-4 : tie.Need-mul-seen-4
-mul-seen-4 c = record { fits = omega (arith, small (place (woken-at (c .before .before .before)))) }
-
-element-copy-out-seen-4 : tie.Need-element-copy-out-seen-4
-element-copy-out-seen-4 c = small (place (woken-at (c .before .before .before)))
+element-copy-out-waiting-2 : tie.Need-element-copy-out-waiting-2
+element-copy-out-waiting-2 c = small (place (woken-at (c .before .before .before)))
 
 seen-requires-2 : tie.Need-seen-requires-2
 seen-requires-2 c κs = search needs
@@ -207,23 +207,23 @@ submit-spec =
     tie.close
     (tie.spec
     place-of-requires
+    mul-share
+    element-copy-out-share
     mul-row
     element-copy-out-row
-    mul-seen
-    element-copy-out-seen
-    mul-seen-2
-    element-copy-out-seen-2
+    mul-waiting
+    element-copy-out-waiting
     seen-requires
     decide-requires
     enum-told
     insert-requires
     rebased-requires
+    mul-share-2
+    element-copy-out-share-2
     mul-row-2
     element-copy-out-row-2
-    mul-seen-3
-    element-copy-out-seen-3
-    mul-seen-4
-    element-copy-out-seen-4
+    mul-waiting-2
+    element-copy-out-waiting-2
     seen-requires-2
     decide-requires-2
     mul-next

@@ -148,23 +148,23 @@ is-submitted e =
 pub place-of-requires : tie.Need-place-of-requires Inv-loop2 μ-loop2 Inv-loop μ-loop
 place-of-requires c κs = search needs
 
-pub mul-row : tie.Need-mul-row Inv-loop2 μ-loop2 Inv-loop μ-loop
-mul-row c = record { fits = omega (arith, small (c .before)) }
+pub mul-share : At tie.Need-mul-share
+mul-share c = record { fits = omega (arith, small (c .before)) }
 
-pub element-copy-out-row : tie.Need-element-copy-out-row Inv-loop2 μ-loop2 Inv-loop μ-loop
-element-copy-out-row c = small (c .before)
+pub element-copy-out-share : At tie.Need-element-copy-out-share
+element-copy-out-share c = small (c .before)
 
-pub mul-seen : tie.Need-mul-seen Inv-loop2 μ-loop2 Inv-loop μ-loop
-mul-seen c = record { fits = omega (arith, small (c .before .before)) }
+pub mul-row : At tie.Need-mul-row
+mul-row c = record { fits = omega (arith, small (c .before .before)) }
 
-pub element-copy-out-seen : tie.Need-element-copy-out-seen Inv-loop2 μ-loop2 Inv-loop μ-loop
-element-copy-out-seen c = small (c .before .before)
+pub element-copy-out-row : At tie.Need-element-copy-out-row
+element-copy-out-row c = small (c .before .before)
 
-pub mul-seen-2 : tie.Need-mul-seen-2 Inv-loop2 μ-loop2 Inv-loop μ-loop
-mul-seen-2 c = record { fits = omega (arith, small (c .before .before .before)) }
+pub mul-waiting : At tie.Need-mul-waiting
+mul-waiting c = record { fits = omega (arith, small (c .before .before .before)) }
 
-pub element-copy-out-seen-2 : tie.Need-element-copy-out-seen-2 Inv-loop2 μ-loop2 Inv-loop μ-loop
-element-copy-out-seen-2 c = small (c .before .before .before)
+pub element-copy-out-waiting : At tie.Need-element-copy-out-waiting
+element-copy-out-waiting c = small (c .before .before .before)
 
 pub seen-requires : tie.Need-seen-requires Inv-loop2 μ-loop2 Inv-loop μ-loop
 seen-requires c κs = search needs
@@ -188,23 +188,23 @@ base-anew-requires c κs =
     let w = woken-active (sound-of p) (bio-of p) (p .place-of .ensures) (first d) (told .enum-told2 .given .1) in
     (w .0, rw (c .before .before .insert .ensures) (w .1), w .2)
 
-pub mul-row-2 : tie.Need-mul-row-2 Inv-loop2 μ-loop2 Inv-loop μ-loop
-mul-row-2 c = record { fits = omega (arith, small (place (woken-at (c .before .before)))) }
+pub mul-share-2 : At tie.Need-mul-share-2
+mul-share-2 c = record { fits = omega (arith, small (place (woken-at (c .before .before)))) }
 
-pub element-copy-out-row-2 : tie.Need-element-copy-out-row-2 Inv-loop2 μ-loop2 Inv-loop μ-loop
-element-copy-out-row-2 c = small (place (woken-at (c .before .before)))
+pub element-copy-out-share-2 : At tie.Need-element-copy-out-share-2
+element-copy-out-share-2 c = small (place (woken-at (c .before .before)))
 
-pub mul-seen-3 : tie.Need-mul-seen-3 Inv-loop2 μ-loop2 Inv-loop μ-loop
-mul-seen-3 c = record { fits = omega (arith, small (place (woken-at (c .before .before .before)))) }
+pub mul-row-2 : At tie.Need-mul-row-2
+mul-row-2 c = record { fits = omega (arith, small (place (woken-at (c .before .before .before)))) }
 
-pub element-copy-out-seen-3 : tie.Need-element-copy-out-seen-3 Inv-loop2 μ-loop2 Inv-loop μ-loop
-element-copy-out-seen-3 c = small (place (woken-at (c .before .before .before)))
+pub element-copy-out-row-2 : At tie.Need-element-copy-out-row-2
+element-copy-out-row-2 c = small (place (woken-at (c .before .before .before)))
 
-pub mul-seen-4 : tie.Need-mul-seen-4 Inv-loop2 μ-loop2 Inv-loop μ-loop
-mul-seen-4 c = record { fits = omega (arith, small (place (woken-at (c .before .before .before .before)))) }
+pub mul-waiting-2 : At tie.Need-mul-waiting-2
+mul-waiting-2 c = record { fits = omega (arith, small (place (woken-at (c .before .before .before .before)))) }
 
-pub element-copy-out-seen-4 : tie.Need-element-copy-out-seen-4 Inv-loop2 μ-loop2 Inv-loop μ-loop
-element-copy-out-seen-4 c = small (place (woken-at (c .before .before .before .before)))
+pub element-copy-out-waiting-2 : At tie.Need-element-copy-out-waiting-2
+element-copy-out-waiting-2 c = small (place (woken-at (c .before .before .before .before)))
 
 pub seen-requires-2 : tie.Need-seen-requires-2 Inv-loop2 μ-loop2 Inv-loop μ-loop
 seen-requires-2 c κs = search needs

@@ -36,7 +36,30 @@ is-planned j =
 pub is-due-requires : tie.Need-is-due-requires Inv-loop2 μ-loop2 Inv-loop μ-loop
 is-due-requires c κs = search needs
 
-pub parts-requires : tie.Need-parts-requires Inv-loop2 μ-loop2 Inv-loop μ-loop
+pub loop3-holds : At tie.Need-loop3-holds
+loop3-holds c = search needs
+
+pub mul-waiting-3 : At tie.Need-mul-waiting-3
+mul-waiting-3 c = search needs
+
+pub element-copy-out-waiting-3 : At tie.Need-element-copy-out-waiting-3
+element-copy-out-waiting-3 c = search needs
+
+pub array-write-waiting : At tie.Need-array-write-waiting
+array-write-waiting c = search needs
+
+pub add-n : At tie.Need-add-n
+add-n c = search needs
+
+pub loop3-less : At tie.Need-loop3-less
+loop3-less c = search needs
+
+pub loop3-again : At tie.Need-loop3-again
+loop3-again c =
+    let l = c .before in
+    (count-put (head (plan-turn (due-at l)) .loop .inv .sound) (l .loop3 .n) (l .loop3 .inv .0) (search needs), search needs)
+
+pub parts-requires : At tie.Need-parts-requires
 parts-requires c κs =
     let d = c .before in
     let at = head (plan-turn d) in
