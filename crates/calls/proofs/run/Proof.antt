@@ -26,23 +26,11 @@ loop-holds c =
 sub-loop : tie.Need-sub-loop Inv-loop2 μ-loop2 Inv-loop μ-loop
 sub-loop c = stands-left (c .loop .inv .front)
 
-read-from-requires : tie.Need-read-from-requires Inv-loop2 μ-loop2 Inv-loop μ-loop
-read-from-requires c κs = tt
-
-call-of-requires : tie.Need-call-of-requires Inv-loop2 μ-loop2 Inv-loop μ-loop
-call-of-requires c κs = tt
-
-next-place-requires : tie.Need-next-place-requires Inv-loop2 μ-loop2 Inv-loop μ-loop
-next-place-requires c κs = tt
-
-sub-left : tie.Need-sub-left Inv-loop2 μ-loop2 Inv-loop μ-loop
+sub-left : At tie.Need-sub-left
 sub-left c = goes-at c .0
 
 -- ---- no call: the run ends here
-enum-told : tie.Need-enum-told Inv-loop2 μ-loop2 Inv-loop μ-loop
-enum-told c = search needs
-
-same-length : tie.Need-same-length Inv-loop2 μ-loop2 Inv-loop μ-loop
+same-length : At tie.Need-same-length
 same-length c = stands-kept (head (c .before .before) .loop .inv .front)
 
 returns : tie.Need-returns Inv-loop2 μ-loop2 Inv-loop μ-loop
@@ -57,6 +45,7 @@ same-length-2 c = stands-kept (c .before .loop .inv .front)
 returns-2 : tie.Need-returns-2 Inv-loop2 μ-loop2 Inv-loop μ-loop
 returns-2 c = ends (c .before .loop .inv) (c .loop-test .left)
 
+-- the needs without a name are found
 pub run-spec : {M : Type 1} → statement M
 run-spec =
     tie.close
@@ -67,24 +56,24 @@ run-spec =
     μ-loop
     loop-holds
     sub-loop
-    read-from-requires
-    call-of-requires
-    next-place-requires
+    (λ c κs. tt)
+    (λ c κs. tt)
+    (λ c κs. tt)
     sub-left
-    enum-told
+    (λ c. search needs)
     same-length
     returns
-    bio.enum-known-call
-    bio.place-of-requires
+    (λ c. search needs)
+    (λ c κs. search needs)
     bio.mul-share
     bio.element-copy-out-share
     bio.mul-row
     bio.element-copy-out-row
     bio.mul-waiting
     bio.element-copy-out-waiting
-    bio.seen-requires
+    (λ c κs. search needs)
     bio.decide-requires
-    bio.enum-told-2
+    (λ c. search needs)
     bio.insert-requires
     bio.base-anew-requires
     bio.mul-share-2
@@ -93,35 +82,35 @@ run-spec =
     bio.element-copy-out-row-2
     bio.mul-waiting-2
     bio.element-copy-out-waiting-2
-    bio.seen-requires-2
+    (λ c κs. search needs)
     bio.decide-requires-2
     bio.mul-next
     bio.element-set-from-next
-    bio.enum-known-queueing
+    (λ c. search needs)
     bio.mul-queue
     bio.element-copy-out-queue
     bio.joined-requires
     bio.mul-longer
     bio.element-set-from-longer
-    bio.enum-told-3
-    bio.enum-told-4
+    (λ c. search needs)
+    (λ c. search needs)
     bio.base-anew-requires-2
     bio.sub-put-answer
     bio.part-put-answer-start
-    bio.part-put-answer-end
+    (λ c. search needs)
     bio.put-answer-requires
     bio.add-count
     bio.loop-less
     bio.loop-again
-    tick.enum-known-call-2
+    (λ c. search needs)
     tick.verdict-requires
-    tick.enum-told-5
+    (λ c. search needs)
     tick.growth-requires
     tick.loop2-holds
-    tick.lowest-requires
+    (λ c κs. search needs)
     tick.mul-wide
     tick.element-copy-out-wide
-    tick.wide-requires
+    (λ c κs. search needs)
     tick.mul-row-3
     tick.element-copy-out-row-3
     tick.mul-settle
@@ -147,41 +136,41 @@ run-spec =
     tick.loop2-less
     tick.loop2-again
     tick.advanced-requires
-    tick.enum-known-verdict
+    (λ c. search needs)
     tick.slice-aggregate-put-ticked
     tick.sub-put-ticked
     tick.part-put-ticked-start
-    tick.part-put-ticked-end
+    (λ c. search needs)
     tick.put-ticked-requires
     tick.add-count-2
     tick.loop-less-2
     tick.loop-again-2
-    plan.enum-told-6
-    plan.is-due-requires
-    plan.loop3-holds
-    plan.mul-waiting-3
-    plan.element-copy-out-waiting-3
-    plan.array-write-waiting
-    plan.add-n
-    plan.loop3-less
+    (λ c. search needs)
+    (λ c κs. search needs)
+    (λ c. search needs)
+    (λ c. search needs)
+    (λ c. search needs)
+    (λ c. search needs)
+    (λ c. search needs)
+    (λ c. search needs)
     plan.loop3-again
     plan.parts-requires
-    plan.restarted-requires
+    (λ c κs. search needs)
     plan.sub-put-planned
     plan.part-put-planned-start
-    plan.part-put-planned-end
+    (λ c. search needs)
     plan.put-planned-requires
     plan.add-count-3
     plan.loop-less-3
     plan.loop-again-3
-    set.enum-known-call-3
-    set.vrate-verdict-requires
-    set.enum-told-7
-    set.with-rate-requires
-    set.enum-told-8
+    (λ c. search needs)
+    (λ c κs. search needs)
+    (λ c. search needs)
+    (λ c κs. search needs)
+    (λ c. search needs)
     set.sub-put-verdict
     set.part-put-verdict-start
-    set.part-put-verdict-end
+    (λ c. search needs)
     set.put-verdict-requires
     set.add-count-4
     set.loop-less-4

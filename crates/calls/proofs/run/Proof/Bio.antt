@@ -5,7 +5,6 @@ use mathlib.Core.Path.{_≡_, ap, _∙_}
 use mathlib.Core.Logic.{⊎-elim}
 use Prim.Native.Nat.{ℕ, _<_}
 use native.Mathlib.Omega.{arith}
-use borrow.Author.Needs.{needs}
 use Rattle.rules.specs.Numbers.{nodesMost}
 use Rattle.rules.specs.Words.{noNode}
 use Rattle.rules.specs.Budget.{queueAt, withSharing, withBooks, putLeaf, pushed, rebased}
@@ -24,9 +23,6 @@ use Rattle.calls.proofs.Answered.{bio-answered}
 use Rattle.calls.proofs.Running.{bio-is-call}
 use Rattle.calls.proofs.run.Tie as tie
 use Rattle.calls.proofs.run.Proof.Turn.{Inv-loop2, μ-loop2, Inv-loop, μ-loop, Turn, head, left-at, room-at, less-at, count-at, again-at}
-
-pub enum-known-call : tie.Need-enum-known-call Inv-loop2 μ-loop2 Inv-loop μ-loop
-enum-known-call c = search needs
 
 -- ---- the bio, its place, and the state that it comes to
 abbrev bio-asked : tie.After-place-of Inv-loop2 μ-loop2 Inv-loop μ-loop → tie.After-call Inv-loop2 μ-loop2 Inv-loop μ-loop
@@ -145,9 +141,6 @@ is-submitted e =
     (e .match4 .came)
 
 -- ---- the needs
-pub place-of-requires : tie.Need-place-of-requires Inv-loop2 μ-loop2 Inv-loop μ-loop
-place-of-requires c κs = search needs
-
 pub mul-share : At tie.Need-mul-share
 mul-share c = record { fits = omega (arith, small (c .before)) }
 
@@ -166,18 +159,12 @@ mul-waiting c = record { fits = omega (arith, small (c .before .before .before))
 pub element-copy-out-waiting : At tie.Need-element-copy-out-waiting
 element-copy-out-waiting c = small (c .before .before .before)
 
-pub seen-requires : tie.Need-seen-requires Inv-loop2 μ-loop2 Inv-loop μ-loop
-seen-requires c κs = search needs
-
-pub decide-requires : tie.Need-decide-requires Inv-loop2 μ-loop2 Inv-loop μ-loop
+pub decide-requires : At tie.Need-decide-requires
 decide-requires c κs =
     let p = c .before .before .before .before in
     rw (seen (sound-of p) (small p) (c .seen .ensures)) (can-decide (sound-of p) (small p))
 
-pub enum-told-2 : tie.Need-enum-told-2 Inv-loop2 μ-loop2 Inv-loop μ-loop
-enum-told-2 c = search needs
-
-pub insert-requires : tie.Need-insert-requires Inv-loop2 μ-loop2 Inv-loop μ-loop
+pub insert-requires : At tie.Need-insert-requires
 insert-requires c κs = small (place (c .before .before .before .before))
 
 pub base-anew-requires : tie.Need-base-anew-requires Inv-loop2 μ-loop2 Inv-loop μ-loop
@@ -206,10 +193,7 @@ mul-waiting-2 c = record { fits = omega (arith, small (place (woken-at (c .befor
 pub element-copy-out-waiting-2 : At tie.Need-element-copy-out-waiting-2
 element-copy-out-waiting-2 c = small (place (woken-at (c .before .before .before .before)))
 
-pub seen-requires-2 : tie.Need-seen-requires-2 Inv-loop2 μ-loop2 Inv-loop μ-loop
-seen-requires-2 c κs = search needs
-
-pub decide-requires-2 : tie.Need-decide-requires-2 Inv-loop2 μ-loop2 Inv-loop μ-loop
+pub decide-requires-2 : At tie.Need-decide-requires-2
 decide-requires-2 c κs =
     let w = c .before .before .before .before .before in
     let inside = small (place (woken-at w)) in
@@ -221,10 +205,7 @@ mul-next c = record { fits = omega (arith, small (place (c .before .before))) }
 pub element-set-from-next : tie.Need-element-set-from-next Inv-loop2 μ-loop2 Inv-loop μ-loop
 element-set-from-next c = small (place (c .before .before))
 
-pub enum-known-queueing : tie.Need-enum-known-queueing Inv-loop2 μ-loop2 Inv-loop μ-loop
-enum-known-queueing c = search needs
-
-pub mul-queue : tie.Need-mul-queue Inv-loop2 μ-loop2 Inv-loop μ-loop
+pub mul-queue : At tie.Need-mul-queue
 mul-queue c = record { fits = omega (arith, small (place (c .before .before .before .before .before))) }
 
 pub element-copy-out-queue : tie.Need-element-copy-out-queue Inv-loop2 μ-loop2 Inv-loop μ-loop
@@ -242,13 +223,7 @@ mul-longer c = record { fits = omega (arith, small (place (c .before .before .be
 pub element-set-from-longer : tie.Need-element-set-from-longer Inv-loop2 μ-loop2 Inv-loop μ-loop
 element-set-from-longer c = small (place (c .before .before .before .before .before .before .before))
 
-pub enum-told-3 : tie.Need-enum-told-3 Inv-loop2 μ-loop2 Inv-loop μ-loop
-enum-told-3 c = search needs
-
-pub enum-told-4 : tie.Need-enum-told-4 Inv-loop2 μ-loop2 Inv-loop μ-loop
-enum-told-4 c = search needs
-
-pub base-anew-requires-2 : tie.Need-base-anew-requires-2 Inv-loop2 μ-loop2 Inv-loop μ-loop
+pub base-anew-requires-2 : At tie.Need-base-anew-requires-2
 base-anew-requires-2 c κs =
     let put = c .before .before .before .before .before .before in
     let m = put .before .before in
@@ -260,10 +235,7 @@ sub-put-answer c = left-at (turn-at c)
 pub part-put-answer-start : tie.Need-part-put-answer-start Inv-loop2 μ-loop2 Inv-loop μ-loop
 part-put-answer-start c = left-at (turn-at c)
 
-pub part-put-answer-end : tie.Need-part-put-answer-end Inv-loop2 μ-loop2 Inv-loop μ-loop
-part-put-answer-end c = search needs
-
-pub put-answer-requires : tie.Need-put-answer-requires Inv-loop2 μ-loop2 Inv-loop μ-loop
+pub put-answer-requires : At tie.Need-put-answer-requires
 put-answer-requires c κs = room-at (turn-at (c .before)) 13 (omega arith)
 
 pub add-count : tie.Need-add-count Inv-loop2 μ-loop2 Inv-loop μ-loop

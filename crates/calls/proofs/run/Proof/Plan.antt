@@ -13,10 +13,7 @@ use Rattle.calls.proofs.Running.{plan-is-call}
 use Rattle.calls.proofs.run.Tie as tie
 use Rattle.calls.proofs.run.Proof.Turn.{Inv-loop2, μ-loop2, Inv-loop, μ-loop, Turn, head, left-at, room-at, less-at, count-at, again-at}
 
-pub enum-told-6 : tie.Need-enum-told-6 Inv-loop2 μ-loop2 Inv-loop μ-loop
-enum-told-6 c = search needs
-
-abbrev plan-asked : tie.After-is-due Inv-loop2 μ-loop2 Inv-loop μ-loop → tie.After-enum-told6 Inv-loop2 μ-loop2 Inv-loop μ-loop
+abbrev plan-asked : At tie.After-is-due → At tie.After-enum-told6
 plan-asked d = d .before .before
 
 abbrev plan-turn : tie.After-is-due Inv-loop2 μ-loop2 Inv-loop μ-loop → Turn
@@ -33,27 +30,6 @@ is-planned j =
     (λ w. rw (w .1, w .2) (refused s (d .is-due .ensures) (w .0 .left)))
     (j .if2 .came)
 
-pub is-due-requires : tie.Need-is-due-requires Inv-loop2 μ-loop2 Inv-loop μ-loop
-is-due-requires c κs = search needs
-
-pub loop3-holds : At tie.Need-loop3-holds
-loop3-holds c = search needs
-
-pub mul-waiting-3 : At tie.Need-mul-waiting-3
-mul-waiting-3 c = search needs
-
-pub element-copy-out-waiting-3 : At tie.Need-element-copy-out-waiting-3
-element-copy-out-waiting-3 c = search needs
-
-pub array-write-waiting : At tie.Need-array-write-waiting
-array-write-waiting c = search needs
-
-pub add-n : At tie.Need-add-n
-add-n c = search needs
-
-pub loop3-less : At tie.Need-loop3-less
-loop3-less c = search needs
-
 pub loop3-again : At tie.Need-loop3-again
 loop3-again c =
     let l = c .before in
@@ -65,19 +41,13 @@ parts-requires c κs =
     let at = head (plan-turn d) in
     (at .loop .inv .sound, passed (at .loop .c) (d .is-due .ensures) (c .if2 .taken))
 
-pub restarted-requires : tie.Need-restarted-requires Inv-loop2 μ-loop2 Inv-loop μ-loop
-restarted-requires c κs = search needs
-
-pub sub-put-planned : tie.Need-sub-put-planned Inv-loop2 μ-loop2 Inv-loop μ-loop
+pub sub-put-planned : At tie.Need-sub-put-planned
 sub-put-planned c = left-at (plan-turn (c .before .before .before))
 
 pub part-put-planned-start : tie.Need-part-put-planned-start Inv-loop2 μ-loop2 Inv-loop μ-loop
 part-put-planned-start c = left-at (plan-turn (c .before .before .before))
 
-pub part-put-planned-end : tie.Need-part-put-planned-end Inv-loop2 μ-loop2 Inv-loop μ-loop
-part-put-planned-end c = search needs
-
-pub put-planned-requires : tie.Need-put-planned-requires Inv-loop2 μ-loop2 Inv-loop μ-loop
+pub put-planned-requires : At tie.Need-put-planned-requires
 put-planned-requires c κs = room-at (plan-turn (c .before .before .before .before)) 1008 (omega arith)
 
 pub add-count-3 : tie.Need-add-count-3 Inv-loop2 μ-loop2 Inv-loop μ-loop

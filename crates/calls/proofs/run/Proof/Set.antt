@@ -3,7 +3,6 @@
 use mathlib.Core.Path.{_≡_}
 use mathlib.Core.Logic.{⊎-elim}
 use native.Mathlib.Omega.{arith}
-use borrow.Author.Needs.{needs}
 use Rattle.rules.specs.Entries.{setBy}
 use Rattle.rules.specs.Replay.{verdictLines}
 use Rattle.rules.specs.declared.budget.Outcome.{Outcome}
@@ -13,10 +12,7 @@ use Rattle.calls.proofs.Running.{set-is-call}
 use Rattle.calls.proofs.run.Tie as tie
 use Rattle.calls.proofs.run.Proof.Turn.{Inv-loop2, μ-loop2, Inv-loop, μ-loop, Turn, head, left-at, room-at, less-at, count-at, again-at}
 
-pub enum-known-call-3 : tie.Need-enum-known-call-3 Inv-loop2 μ-loop2 Inv-loop μ-loop
-enum-known-call-3 c = search needs
-
-abbrev set-asked : tie.After-vrate-verdict Inv-loop2 μ-loop2 Inv-loop μ-loop → tie.After-call3 Inv-loop2 μ-loop2 Inv-loop μ-loop
+abbrev set-asked : At tie.After-vrate-verdict → At tie.After-call3
 set-asked v = v .before .before
 
 abbrev set-turn : tie.After-vrate-verdict Inv-loop2 μ-loop2 Inv-loop μ-loop → Turn
@@ -30,28 +26,13 @@ is-set m =
     ⊎-elim (λ w. rw (w .4) (rate-set _ _ judged (w .1 .given .1) (w .3 .ensures))) (λ w. rw (w .2) (rate-kept _ _ judged (w .1 .given .1)))
     (m .match6 .came)
 
-pub vrate-verdict-requires : tie.Need-vrate-verdict-requires Inv-loop2 μ-loop2 Inv-loop μ-loop
-vrate-verdict-requires c κs = search needs
-
-pub enum-told-7 : tie.Need-enum-told-7 Inv-loop2 μ-loop2 Inv-loop μ-loop
-enum-told-7 c = search needs
-
-pub with-rate-requires : tie.Need-with-rate-requires Inv-loop2 μ-loop2 Inv-loop μ-loop
-with-rate-requires c κs = search needs
-
-pub enum-told-8 : tie.Need-enum-told-8 Inv-loop2 μ-loop2 Inv-loop μ-loop
-enum-told-8 c = search needs
-
-pub sub-put-verdict : tie.Need-sub-put-verdict Inv-loop2 μ-loop2 Inv-loop μ-loop
+pub sub-put-verdict : At tie.Need-sub-put-verdict
 sub-put-verdict c = left-at (set-turn (c .before))
 
 pub part-put-verdict-start : tie.Need-part-put-verdict-start Inv-loop2 μ-loop2 Inv-loop μ-loop
 part-put-verdict-start c = left-at (set-turn (c .before))
 
-pub part-put-verdict-end : tie.Need-part-put-verdict-end Inv-loop2 μ-loop2 Inv-loop μ-loop
-part-put-verdict-end c = search needs
-
-pub put-verdict-requires : tie.Need-put-verdict-requires Inv-loop2 μ-loop2 Inv-loop μ-loop
+pub put-verdict-requires : At tie.Need-put-verdict-requires
 put-verdict-requires c κs = room-at (set-turn (c .before .before)) 5 (omega arith)
 
 pub add-count-4 : tie.Need-add-count-4 Inv-loop2 μ-loop2 Inv-loop μ-loop

@@ -6,7 +6,6 @@ use mathlib.Core.Logic.{⊎-elim}
 use Prim.Native.Nat.{ℕ, _+_, _-_, _≤_}
 use native.Mathlib.Omega.{arith}
 use lib.ListN.{length, getD, take, drop}
-use borrow.Author.Needs.{needs}
 use Rattle.rules.specs.Tick.{advanced, lentAfter, waitingAll}
 use Rattle.rules.specs.Refusals.{firstOf, tickChecks}
 use Rattle.rules.specs.Entries.{ticked, lentOf}
@@ -30,10 +29,7 @@ use Rattle.calls.proofs.Running.{tick-is-call}
 use Rattle.calls.proofs.run.Tie as tie
 use Rattle.calls.proofs.run.Proof.Turn.{Inv-loop2, μ-loop2, Inv-loop, μ-loop, Turn, head, left-at, room-at, less-at, count-at, again-at}
 
-pub enum-known-call-2 : tie.Need-enum-known-call-2 Inv-loop2 μ-loop2 Inv-loop μ-loop
-enum-known-call-2 c = search needs
-
-abbrev tick-asked : tie.After-verdict Inv-loop2 μ-loop2 Inv-loop μ-loop → tie.After-call2 Inv-loop2 μ-loop2 Inv-loop μ-loop
+abbrev tick-asked : At tie.After-verdict → At tie.After-call2
 tick-asked v = v .before .before .before
 
 abbrev tick-turn : tie.After-verdict Inv-loop2 μ-loop2 Inv-loop μ-loop → Turn
@@ -82,10 +78,7 @@ is-ticked m =
 pub verdict-requires : tie.Need-verdict-requires Inv-loop2 μ-loop2 Inv-loop μ-loop
 verdict-requires c κs = head (c .before .before .before .before) .loop .inv .sound .clock
 
-pub enum-told-5 : tie.Need-enum-told-5 Inv-loop2 μ-loop2 Inv-loop μ-loop
-enum-told-5 c = search needs
-
-pub growth-requires : tie.Need-growth-requires Inv-loop2 μ-loop2 Inv-loop μ-loop
+pub growth-requires : At tie.Need-growth-requires
 growth-requires c κs = passing-is-near (head (tick-turn (c .before .before)) .loop .inv .sound) (passing c)
 
 pub loop2-holds : tie.Need-loop2-holds Inv-loop2 μ-loop2 Inv-loop μ-loop
@@ -116,19 +109,13 @@ back-at : (l : tie.At-loop2 Inv-loop2 μ-loop2 Inv-loop μ-loop) {ys xs zs : Lis
 back-at l {ys} e z =
     z ∙ ap (λ (k : ℕ). take (l .loop2 .done) (l .loop2 .ids) ++ (ys ++ drop (k - l .loop2 .done) (drop (l .loop2 .done) (l .loop2 .ids)))) (sym (ids-long l))
 
-pub lowest-requires : tie.Need-lowest-requires Inv-loop2 μ-loop2 Inv-loop μ-loop
-lowest-requires c κs = search needs
-
-pub mul-wide : tie.Need-mul-wide Inv-loop2 μ-loop2 Inv-loop μ-loop
+pub mul-wide : At tie.Need-mul-wide
 mul-wide c = record { fits = omega (arith, c .lowest .ensures .node) }
 
 pub element-copy-out-wide : tie.Need-element-copy-out-wide Inv-loop2 μ-loop2 Inv-loop μ-loop
 element-copy-out-wide c = c .lowest .ensures .node
 
-pub wide-requires : tie.Need-wide-requires Inv-loop2 μ-loop2 Inv-loop μ-loop
-wide-requires c κs = search needs
-
-pub mul-row-3 : tie.Need-mul-row-3 Inv-loop2 μ-loop2 Inv-loop μ-loop
+pub mul-row-3 : At tie.Need-mul-row-3
 mul-row-3 c = record { fits = omega (arith, c .before .before .lowest .ensures .node) }
 
 pub element-copy-out-row-3 : tie.Need-element-copy-out-row-3 Inv-loop2 μ-loop2 Inv-loop μ-loop
@@ -245,10 +232,7 @@ advanced-requires c κs =
     let at = c .before in
     (passing-is-near (sound-at at) (passing (at .before .before)), at .before .growth .ensures)
 
-pub enum-known-verdict : tie.Need-enum-known-verdict Inv-loop2 μ-loop2 Inv-loop μ-loop
-enum-known-verdict c = search needs
-
-ids-kept : (m : tie.At-match5-came Inv-loop2 μ-loop2 Inv-loop μ-loop) → length (m .match5 .ids) ≡ 504
+ids-kept : (m : At tie.At-match5-came) → length (m .match5 .ids) ≡ 504
 ids-kept m = ⊎-elim (λ w. rw (w .7) (ids-long (record { before = record { before = record { before = record { before = m .before; match5 = w .0 }; enum-told5 = w .1 }; growth = w .2 }; loop2 = w .3 }))) (λ w. rw (w .4) (lent-long (m .before))) (m .match5 .came)
 
 pub slice-aggregate-put-ticked : tie.Need-slice-aggregate-put-ticked Inv-loop2 μ-loop2 Inv-loop μ-loop
@@ -260,10 +244,7 @@ sub-put-ticked c = left-at (tick-turn (c .before .before))
 pub part-put-ticked-start : tie.Need-part-put-ticked-start Inv-loop2 μ-loop2 Inv-loop μ-loop
 part-put-ticked-start c = left-at (tick-turn (c .before .before))
 
-pub part-put-ticked-end : tie.Need-part-put-ticked-end Inv-loop2 μ-loop2 Inv-loop μ-loop
-part-put-ticked-end c = search needs
-
-pub put-ticked-requires : tie.Need-put-ticked-requires Inv-loop2 μ-loop2 Inv-loop μ-loop
+pub put-ticked-requires : At tie.Need-put-ticked-requires
 put-ticked-requires c κs =
     let m = c .before .before in
     let t = tick-turn (m .before) in
