@@ -16,7 +16,7 @@ fn wide(x: u32) -> u64
 }
 
 // The rows with each budget scaled from the share before to the share after.
-pub fn rebudgeted<'a>(rows: [Row; 64], before: &'a [u32; 64], after: &'a [u32; 64]) -> [Row; 64]
+fn rebudgeted<'a>(rows: [Row; 64], before: &'a [u32; 64], after: &'a [u32; 64]) -> [Row; 64]
     requires { ⌜ ((n : ℕ) → getD rows n emptyRow .budget .0 * getD (now before) n 0 ≤ worthMost) ⌝ }
     ensures { λ r. ⌜ r ≡ rebudgetedRows rows (now (before .entry)) (now (after .entry)) ⌝ }
 {
