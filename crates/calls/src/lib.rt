@@ -151,8 +151,8 @@ pub fn run(mut c: Controller, trace: &[u8], place: usize, most: usize, out: &mut
                 };
             }
             Call::Bio(bio) => {
-                // A row changes, and the queue that the bio joins, both where they stand, as in `submit`; where shares change, so
-                // do the shares and the budgets of all.
+                // As in `submit`, but that nothing is handed over: a row changes where it stands, and the queue that the bio
+                // joins; where shares change, those of all are put in with their rows.
                 let node = submit::place_of(bio);
                 let model = c.model;
                 let share = c.shares[node];
@@ -160,6 +160,7 @@ pub fn run(mut c: Controller, trace: &[u8], place: usize, most: usize, out: &mut
                 let waiting = c.queues[node].len;
                 let view = seen(c.leaves, c.active, c.donors, model, share, row, waiting);
                 let mut decided = submit::decide(bio, node, view);
+                // "1. An inactive leaf becomes active .."
                 let first = decided.shares;
                 if let Shares::Activate = first {
                     let tree = c.tree;
@@ -186,6 +187,7 @@ pub fn run(mut c: Controller, trace: &[u8], place: usize, most: usize, out: &mut
                     let longer = submit::joined(bio.id, cost, queue);
                     c.queues[node] = longer;
                 }
+                // "4. .. the donation ends: all return to base shares."
                 let last = decided.shares;
                 if let Shares::Return = last {
                     let tree = c.tree;
