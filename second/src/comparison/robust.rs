@@ -16,6 +16,10 @@ use crate::generator::style::Style;
 /// A program that takes longer than this for the longest trace hangs.
 const PATIENCE: Duration = Duration::from_secs(300);
 
+/// With too little memory a program may hang, as an emulator does, where it
+/// should say so. An empty trace takes no time, so it need not be waited for.
+const BRIEF: Duration = Duration::from_secs(2);
+
 /// How many bytes the longest traces have.
 const LONGEST: u64 = 10_000_000;
 
@@ -180,7 +184,7 @@ fn feed_of(number: usize, trace: &[u8]) -> Feed {
 /// a fixed amount more; or why that cannot be done.
 fn hold_memory(pair: &Pair) -> io::Result<Result<Pair, String>> {
     let found = Mutex::new((None, None));
-    on_all_cores(1, PATIENCE, |watch, _| {
+    on_all_cores(1, BRIEF, |watch, _| {
         let ours = least_memory(&pair.ours, watch)?;
         let second = least_memory(&pair.second, watch)?;
         *found.lock().unwrap() = (ours, second);

@@ -3,6 +3,8 @@
 
 use std::fs::{self, File};
 use std::io::{self, Write};
+use std::os::raw::c_int;
+use std::os::unix::process::CommandExt;
 use std::path::{Path, PathBuf};
 use std::process::{Child, ChildStdin, Command, ExitStatus, Stdio};
 use std::thread;
@@ -12,6 +14,13 @@ use crate::generator::random::Random;
 
 /// A program that takes longer than this for a trace hangs.
 pub const PATIENCE: Duration = Duration::from_secs(60);
+
+/// The signal that ends any program.
+const SIGKILL: c_int = 9;
+
+extern "C" {
+    fn kill(process: c_int, signal: c_int) -> c_int;
+}
 
 /// No trace here prints as much as this.
 const MOST_PRINTED: u64 = 1 << 28;
@@ -101,7 +110,8 @@ impl Watch {
         command
             .args(&program.words[1..])
             .stdout(File::create(&printed)?)
-            .stderr(File::create(&said)?);
+            .stderr(File::create(&said)?)
+            .process_group(0);
         match feed {
             Feed::Named => command.arg(trace).stdin(Stdio::null()),
             Feed::Input => command.stdin(File::open(trace)?),
@@ -139,8 +149,7 @@ impl Watch {
             let too_long = taken > self.limit;
             let too_much = fs::metadata(printed)?.len() > MOST_PRINTED;
             if too_long || too_much {
-                child.kill()?;
-                child.wait()?;
+                end(child)?;
                 return Ok(Err(if too_long {
                     format!("does not end within {} s", self.limit.as_secs())
                 } else {
@@ -151,6 +160,16 @@ impl Watch {
             thread::sleep(pause.min(Duration::from_millis(20)));
         }
     }
+}
+
+/// Ends a program and all that it has started: a script that is killed alone
+/// leaves its program running.
+fn end(child: &mut Child) -> io::Result<()> {
+    // The process was not waited for, so the number is still that of the
+    // group which it leads.
+    unsafe { kill(-(child.id() as c_int), SIGKILL) };
+    child.wait()?;
+    Ok(())
 }
 
 /// Pieces of every size up to a little more than the longest record.
