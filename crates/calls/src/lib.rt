@@ -243,11 +243,18 @@ pub fn run(mut c: Controller, trace: &[u8], place: usize, most: usize, out: &mut
                 count += put_ticked(answer, &ids, &mut out[count..]);
             }
             Call::Plan => {
-                // What a plan changes is put into the state where it stands.
+                // The plan is shown parts of the state, and what it changes is put in where the state stands, as in `plan`.
                 let clock = c.clock;
                 let mut answer = Verdict::Refused(Refusal::NothingPassed);
                 if plan::is_due(clock) {
-                    let next = plan::parts(c);
+                    let mut waiting = [0u8; 64];
+                    for n in 0..64usize {
+                        waiting[n] = c.queues[n].len;
+                    }
+                    let tree = c.tree;
+                    let rows = c.rows;
+                    let since = clock.since;
+                    let next = plan::parts(tree, since, c.active, &c.shares, rows, &waiting);
                     let again = plan::restarted(clock);
                     let shares = next.shares;
                     let rows = next.rows;

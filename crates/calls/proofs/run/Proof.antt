@@ -6,7 +6,7 @@ use Rattle.rules.specs.Laws.Buffers.{stands-left, stands-kept}
 use Rattle.calls.proofs.Running.{begun, ends, no-call}
 use Rattle.calls.proofs.run.Statement.{statement}
 use Rattle.calls.proofs.run.Tie as tie
-use Rattle.calls.proofs.run.Proof.Turn.{Inv-loop2, μ-loop2, Inv-loop, μ-loop, head, goes-at}
+use Rattle.calls.proofs.run.Proof.Turn.{Inv-loop2, μ-loop2, Inv-loop3, μ-loop3, Inv-loop, μ-loop, At, head, goes-at}
 use Rattle.calls.proofs.run.Proof.Bio as bio
 use Rattle.calls.proofs.run.Proof.Tick as tick
 use Rattle.calls.proofs.run.Proof.Plan as plan
@@ -18,12 +18,12 @@ mod Plan
 mod Set
 
 -- ---- the loop
-loop-holds : tie.Need-loop-holds Inv-loop2 μ-loop2 Inv-loop μ-loop
+loop-holds : At tie.Need-loop-holds
 loop-holds c =
     let a = c .before .before .args in
     begun (now (a .trace)) (now (a .out)) (a .most) (a .place) (a .t1) (c .before .before .pre)
 
-sub-loop : tie.Need-sub-loop Inv-loop2 μ-loop2 Inv-loop μ-loop
+sub-loop : At tie.Need-sub-loop
 sub-loop c = stands-left (c .loop .inv .front)
 
 sub-left : At tie.Need-sub-left
@@ -33,16 +33,16 @@ sub-left c = goes-at c .0
 same-length : At tie.Need-same-length
 same-length c = stands-kept (head (c .before .before) .loop .inv .front)
 
-returns : tie.Need-returns Inv-loop2 μ-loop2 Inv-loop μ-loop
+returns : At tie.Need-returns
 returns c =
     let t = c .before .before in
     no-call (head t .loop .inv) (t .before .before .read-from .ensures .0) (t .before .call-of .ensures) (c .enum-told .given .1)
 
 -- ---- the loop is left
-same-length-2 : tie.Need-same-length-2 Inv-loop2 μ-loop2 Inv-loop μ-loop
+same-length-2 : At tie.Need-same-length-2
 same-length-2 c = stands-kept (c .before .loop .inv .front)
 
-returns-2 : tie.Need-returns-2 Inv-loop2 μ-loop2 Inv-loop μ-loop
+returns-2 : At tie.Need-returns-2
 returns-2 c = ends (c .before .loop .inv) (c .loop-test .left)
 
 -- the needs without a name are found
@@ -52,6 +52,8 @@ run-spec =
     (tie.spec
     Inv-loop2
     μ-loop2
+    Inv-loop3
+    μ-loop3
     Inv-loop
     μ-loop
     loop-holds

@@ -22,68 +22,68 @@ use Rattle.submit.proofs.Decisions.{place-inside, queue-read, seen, can-decide,
 use Rattle.calls.proofs.Answered.{bio-answered}
 use Rattle.calls.proofs.Running.{bio-is-call}
 use Rattle.calls.proofs.run.Tie as tie
-use Rattle.calls.proofs.run.Proof.Turn.{Inv-loop2, μ-loop2, Inv-loop, μ-loop, Turn, head, left-at, room-at, less-at, count-at, again-at}
+use Rattle.calls.proofs.run.Proof.Turn.{At, Turn, head, left-at, room-at, less-at, count-at, again-at}
 
 -- ---- the bio, its place, and the state that it comes to
-abbrev bio-asked : tie.After-place-of Inv-loop2 μ-loop2 Inv-loop μ-loop → tie.After-call Inv-loop2 μ-loop2 Inv-loop μ-loop
+abbrev bio-asked : At tie.After-place-of → At tie.After-call
 bio-asked p = p .before .before
 
-abbrev bio-turn : tie.After-place-of Inv-loop2 μ-loop2 Inv-loop μ-loop → Turn
+abbrev bio-turn : At tie.After-place-of → Turn
 bio-turn p = bio-asked p .before .before
 
-abbrev bio-of : tie.After-place-of Inv-loop2 μ-loop2 Inv-loop μ-loop → Bio
+abbrev bio-of : At tie.After-place-of → Bio
 bio-of p = bio-asked p .call .given .0 .0
 
-abbrev state-of : tie.After-place-of Inv-loop2 μ-loop2 Inv-loop μ-loop → Controller
+abbrev state-of : At tie.After-place-of → Controller
 state-of p = head (bio-turn p) .loop .c
 
-sound-of : (p : tie.After-place-of Inv-loop2 μ-loop2 Inv-loop μ-loop) → Sound (state-of p)
+sound-of : (p : At tie.After-place-of) → Sound (state-of p)
 sound-of p = head (bio-turn p) .loop .inv .sound
 
-small : (p : tie.After-place-of Inv-loop2 μ-loop2 Inv-loop μ-loop) → p .place-of .result < nodesMost
+small : (p : At tie.After-place-of) → p .place-of .result < nodesMost
 small p = rw (p .place-of .ensures) (place-inside (bio-of p))
 
 -- ---- what was decided first
-abbrev place : tie.After-decide Inv-loop2 μ-loop2 Inv-loop μ-loop → tie.After-place-of Inv-loop2 μ-loop2 Inv-loop μ-loop
+abbrev place : At tie.After-decide → At tie.After-place-of
 place d = d .before .before .before .before .before
 
-first : (d : tie.After-decide Inv-loop2 μ-loop2 Inv-loop μ-loop) → let p = place d in let n = p .place-of .result in
+first : (d : At tie.After-decide) → let p = place d in let n = p .place-of .result in
     d .decide .result ≡ decision (bio-of p) n (viewAt n (state-of p))
 first d =
     let p = place d in
     d .decide .ensures ∙ ap (decision (bio-of p) (p .place-of .result)) (seen (sound-of p) (small p) (d .before .seen .ensures))
 
 -- ---- the leaf is to become active
-abbrev told-at : tie.After-base-anew Inv-loop2 μ-loop2 Inv-loop μ-loop → tie.After-enum-told2 Inv-loop2 μ-loop2 Inv-loop μ-loop
+abbrev told-at : At tie.After-base-anew → At tie.After-enum-told2
 told-at w = w .before .before .before .before .before .before
 
-abbrev woken-at : tie.After-base-anew Inv-loop2 μ-loop2 Inv-loop μ-loop → tie.After-decide Inv-loop2 μ-loop2 Inv-loop μ-loop
+abbrev woken-at : At tie.After-base-anew → At tie.After-decide
 woken-at w = told-at w .before .before
 
-abbrev woken : tie.After-base-anew Inv-loop2 μ-loop2 Inv-loop μ-loop → Controller
+abbrev woken : At tie.After-base-anew → Controller
 woken w =
     let s = state-of (place (woken-at w)) in
     withSharing (w .before .before .before .insert .result) noNode (w .base-anew .result .shares) (withBooks (w .base-anew .result .rows) (s .queues) s)
 
-is-woken : (w : tie.After-base-anew Inv-loop2 μ-loop2 Inv-loop μ-loop) → let p = place (woken-at w) in
+is-woken : (w : At tie.After-base-anew) → let p = place (woken-at w) in
     woken w ≡ rebased (activeWith (p .place-of .result) (state-of p)) (state-of p)
 is-woken w =
     let s = state-of (place (woken-at w)) in
     anew-put _ s (w .base-anew .ensures) ∙ ap (λ (a : ℕ). rebased a s) (w .before .before .before .insert .ensures)
 
-is-sound : (w : tie.After-base-anew Inv-loop2 μ-loop2 Inv-loop μ-loop) → Sound (woken w)
+is-sound : (w : At tie.After-base-anew) → Sound (woken w)
 is-sound w =
     let p = place (woken-at w) in
     woken-sound (sound-of p) (bio-of p) (p .place-of .ensures) (first (woken-at w)) (told-at w .enum-told2 .given .1) (is-woken w)
 
 -- ---- what is carried out, and where
-carries : (m : tie.At-match2-came Inv-loop2 μ-loop2 Inv-loop μ-loop) → let p = place (m .before) in
+carries : (m : At tie.At-match2-came) → let p = place (m .before) in
     Carries (bio-of p) (state-of p) (p .place-of .result) (m .match2 .decided) (m .match2 .c)
 carries m =
     let p = place (m .before) in
     ⊎-elim
     (λ w.
-    let at : tie.After-base-anew Inv-loop2 μ-loop2 Inv-loop μ-loop = record {
+    let at : At tie.After-base-anew = record {
       before = record {
         before = record {
           before = record {
@@ -108,7 +108,7 @@ carries m =
     (m .match2 .came)
 
 -- ---- the leaf's books are put back
-put-at : (j : tie.At-match3-came Inv-loop2 μ-loop2 Inv-loop μ-loop) → let m = j .before .before in let p = place (m .before) in let n = p .place-of .result in let r = m .match2 .decided in
+put-at : (j : At tie.At-match3-came) → let m = j .before .before in let p = place (m .before) in let n = p .place-of .result in let r = m .match2 .decided in
     j .match3 .c ≡ putLeaf n (r .row) (queued (r .queue) (bio-of p .id) (queueAt (m .match2 .c) n)) (m .match2 .c)
 put-at j =
     let m = j .before .before in
@@ -123,13 +123,13 @@ put-at j =
     (j .match3 .came)
 
 -- ---- by either way the answer and the state are the submission's
-abbrev done-at : tie.At-match4-came Inv-loop2 μ-loop2 Inv-loop μ-loop → tie.At-match2-came Inv-loop2 μ-loop2 Inv-loop μ-loop
+abbrev done-at : At tie.At-match4-came → At tie.At-match2-came
 done-at e = e .before .before .before
 
-abbrev turn-at : tie.At-match4-came Inv-loop2 μ-loop2 Inv-loop μ-loop → Turn
+abbrev turn-at : At tie.At-match4-came → Turn
 turn-at e = bio-turn (place (done-at e .before))
 
-is-submitted : (e : tie.At-match4-came Inv-loop2 μ-loop2 Inv-loop μ-loop) → let m = done-at e in let p = place (m .before) in
+is-submitted : (e : At tie.At-match4-came) → let m = done-at e in let p = place (m .before) in
     _≡_ {A = Submitted} (record { answer = m .match2 .decided .answer; state = e .match4 .c }) (submitted (bio-of p) (state-of p))
 is-submitted e =
     let m = done-at e in
@@ -167,7 +167,7 @@ decide-requires c κs =
 pub insert-requires : At tie.Need-insert-requires
 insert-requires c κs = small (place (c .before .before .before .before))
 
-pub base-anew-requires : tie.Need-base-anew-requires Inv-loop2 μ-loop2 Inv-loop μ-loop
+pub base-anew-requires : At tie.Need-base-anew-requires
 base-anew-requires c κs =
     let told = c .before .before .before .before .before in
     let d = told .before .before in
@@ -199,28 +199,28 @@ decide-requires-2 c κs =
     let inside = small (place (woken-at w)) in
     rw (seen (is-sound w) inside (c .seen2 .ensures)) (can-decide (is-sound w) inside)
 
-pub mul-next : tie.Need-mul-next Inv-loop2 μ-loop2 Inv-loop μ-loop
+pub mul-next : At tie.Need-mul-next
 mul-next c = record { fits = omega (arith, small (place (c .before .before))) }
 
-pub element-set-from-next : tie.Need-element-set-from-next Inv-loop2 μ-loop2 Inv-loop μ-loop
+pub element-set-from-next : At tie.Need-element-set-from-next
 element-set-from-next c = small (place (c .before .before))
 
 pub mul-queue : At tie.Need-mul-queue
 mul-queue c = record { fits = omega (arith, small (place (c .before .before .before .before .before))) }
 
-pub element-copy-out-queue : tie.Need-element-copy-out-queue Inv-loop2 μ-loop2 Inv-loop μ-loop
+pub element-copy-out-queue : At tie.Need-element-copy-out-queue
 element-copy-out-queue c = small (place (c .before .before .before .before .before))
 
-pub joined-requires : tie.Need-joined-requires Inv-loop2 μ-loop2 Inv-loop μ-loop
+pub joined-requires : At tie.Need-joined-requires
 joined-requires c κs =
     let told = c .before .before in
     let m = told .before .before .before in
     can-join (carries m .sound) _ (place (m .before) .place-of .ensures) (carries m .same) (told .queueing .given .1)
 
-pub mul-longer : tie.Need-mul-longer Inv-loop2 μ-loop2 Inv-loop μ-loop
+pub mul-longer : At tie.Need-mul-longer
 mul-longer c = record { fits = omega (arith, small (place (c .before .before .before .before .before .before .before))) }
 
-pub element-set-from-longer : tie.Need-element-set-from-longer Inv-loop2 μ-loop2 Inv-loop μ-loop
+pub element-set-from-longer : At tie.Need-element-set-from-longer
 element-set-from-longer c = small (place (c .before .before .before .before .before .before .before))
 
 pub base-anew-requires-2 : At tie.Need-base-anew-requires-2
@@ -229,24 +229,24 @@ base-anew-requires-2 c κs =
     let m = put .before .before in
     can-return (carries m .sound) _ (place (m .before) .place-of .ensures) (carries m .same) (put-at put)
 
-pub sub-put-answer : tie.Need-sub-put-answer Inv-loop2 μ-loop2 Inv-loop μ-loop
+pub sub-put-answer : At tie.Need-sub-put-answer
 sub-put-answer c = left-at (turn-at c)
 
-pub part-put-answer-start : tie.Need-part-put-answer-start Inv-loop2 μ-loop2 Inv-loop μ-loop
+pub part-put-answer-start : At tie.Need-part-put-answer-start
 part-put-answer-start c = left-at (turn-at c)
 
 pub put-answer-requires : At tie.Need-put-answer-requires
 put-answer-requires c κs = room-at (turn-at (c .before)) 13 (omega arith)
 
-pub add-count : tie.Need-add-count Inv-loop2 μ-loop2 Inv-loop μ-loop
+pub add-count : At tie.Need-add-count
 add-count c =
     let put = c .before .before in
     count-at (turn-at (put .before .before)) (answerLine _ _) (put .put-answer .ensures) (put .put-answer .kept .1 .1 .0)
 
-pub loop-less : tie.Need-loop-less Inv-loop2 μ-loop2 Inv-loop μ-loop
+pub loop-less : At tie.Need-loop-less
 loop-less c = less-at (turn-at (c .before .before .before .before))
 
-pub loop-again : tie.Need-loop-again Inv-loop2 μ-loop2 Inv-loop μ-loop
+pub loop-again : At tie.Need-loop-again
 loop-again c =
     let put = c .before .before in
     let e = put .before .before in

@@ -10,16 +10,16 @@ use Rattle.controller.proofs.Vrates.{rate-set, rate-kept}
 use Rattle.calls.proofs.Answered.{set-answered}
 use Rattle.calls.proofs.Running.{set-is-call}
 use Rattle.calls.proofs.run.Tie as tie
-use Rattle.calls.proofs.run.Proof.Turn.{Inv-loop2, μ-loop2, Inv-loop, μ-loop, Turn, head, left-at, room-at, less-at, count-at, again-at}
+use Rattle.calls.proofs.run.Proof.Turn.{At, Turn, head, left-at, room-at, less-at, count-at, again-at}
 
 abbrev set-asked : At tie.After-vrate-verdict → At tie.After-call3
 set-asked v = v .before .before
 
-abbrev set-turn : tie.After-vrate-verdict Inv-loop2 μ-loop2 Inv-loop μ-loop → Turn
+abbrev set-turn : At tie.After-vrate-verdict → Turn
 set-turn v = set-asked v .before .before
 
 -- by either way the state is the setting's
-is-set : (m : tie.At-match6-came Inv-loop2 μ-loop2 Inv-loop μ-loop) → let v = m .before in
+is-set : (m : At tie.At-match6-came) → let v = m .before in
     _≡_ {A = Outcome} (record { answer = v .vrate-verdict .result; state = m .match6 .c }) (setBy (set-asked v .call3 .given .0 .0) (head (set-turn v) .loop .c))
 is-set m =
     let judged = m .before .vrate-verdict .ensures in
@@ -29,21 +29,21 @@ is-set m =
 pub sub-put-verdict : At tie.Need-sub-put-verdict
 sub-put-verdict c = left-at (set-turn (c .before))
 
-pub part-put-verdict-start : tie.Need-part-put-verdict-start Inv-loop2 μ-loop2 Inv-loop μ-loop
+pub part-put-verdict-start : At tie.Need-part-put-verdict-start
 part-put-verdict-start c = left-at (set-turn (c .before))
 
 pub put-verdict-requires : At tie.Need-put-verdict-requires
 put-verdict-requires c κs = room-at (set-turn (c .before .before)) 5 (omega arith)
 
-pub add-count-4 : tie.Need-add-count-4 Inv-loop2 μ-loop2 Inv-loop μ-loop
+pub add-count-4 : At tie.Need-add-count-4
 add-count-4 c =
     let put = c .before .before in
     count-at (set-turn (put .before .before .before)) (verdictLines _) (put .put-verdict .ensures) (put .put-verdict .kept .1 .0)
 
-pub loop-less-4 : tie.Need-loop-less-4 Inv-loop2 μ-loop2 Inv-loop μ-loop
+pub loop-less-4 : At tie.Need-loop-less-4
 loop-less-4 c = less-at (set-turn (c .before .before .before .before .before))
 
-pub loop-again-4 : tie.Need-loop-again-4 Inv-loop2 μ-loop2 Inv-loop μ-loop
+pub loop-again-4 : At tie.Need-loop-again-4
 loop-again-4 c =
     let put = c .before .before in
     let came = put .before .before in

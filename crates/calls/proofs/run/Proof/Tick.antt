@@ -27,38 +27,38 @@ use Rattle.tick.proofs.Going.{same-walking, passing-is-near, begins, row-fits, 
 use Rattle.calls.proofs.Answered.{can-print, tick-answered}
 use Rattle.calls.proofs.Running.{tick-is-call}
 use Rattle.calls.proofs.run.Tie as tie
-use Rattle.calls.proofs.run.Proof.Turn.{Inv-loop2, μ-loop2, Inv-loop, μ-loop, Turn, head, left-at, room-at, less-at, count-at, again-at}
+use Rattle.calls.proofs.run.Proof.Turn.{At, Turn, head, left-at, room-at, less-at, count-at, again-at}
 
 abbrev tick-asked : At tie.After-verdict → At tie.After-call2
 tick-asked v = v .before .before .before
 
-abbrev tick-turn : tie.After-verdict Inv-loop2 μ-loop2 Inv-loop μ-loop → Turn
+abbrev tick-turn : At tie.After-verdict → Turn
 tick-turn v = tick-asked v .before .before
 
-abbrev judged-at : tie.After-growth Inv-loop2 μ-loop2 Inv-loop μ-loop → tie.After-verdict Inv-loop2 μ-loop2 Inv-loop μ-loop
+abbrev judged-at : At tie.After-growth → At tie.After-verdict
 judged-at g = g .before .before .before
 
 -- the buffer as it comes, with a place for each bio that can wait
-abbrev lent-at : tie.After-verdict Inv-loop2 μ-loop2 Inv-loop μ-loop → List ℕ
+abbrev lent-at : At tie.After-verdict → List ℕ
 lent-at v = head (tick-turn v) .loop .ids
 
-lent-long : (v : tie.After-verdict Inv-loop2 μ-loop2 Inv-loop μ-loop) → length (lent-at v) ≡ 504
+lent-long : (v : At tie.After-verdict) → length (lent-at v) ≡ 504
 lent-long v = head (tick-turn v) .loop .inv .places
 
 -- all that can wait has a place, so that a tick which the clock passes is accepted
-accepted-at : (c : tie.After-enum-told5 Inv-loop2 μ-loop2 Inv-loop μ-loop) → let v = c .before .before in
+accepted-at : (c : At tie.After-enum-told5) → let v = c .before .before in
     firstOf (tickChecks (tick-asked v .call2 .given .0 .0) (length (lent-at v)) (head (tick-turn v) .loop .c)) ≡ Accepted
 accepted-at c =
     let v = c .before .before in
     let room : waitingAll (head (tick-turn v) .loop .c) ≤ length (lent-at v) = rw (lent-long v) (waiting-small (head (tick-turn v) .loop .inv .sound)) in
     enough-places (tick-asked v .call2 .given .0 .0) (length (lent-at v)) (head (tick-turn v) .loop .c) (v .verdict .ensures) (c .enum-told5 .given .1) refl room
 
-passing : (c : tie.After-enum-told5 Inv-loop2 μ-loop2 Inv-loop μ-loop) → let v = c .before .before in
+passing : (c : At tie.After-enum-told5) → let v = c .before .before in
     TickPasses (tick-asked v .call2 .given .0 .0) (length (lent-at v)) (head (tick-turn v) .loop .c)
 passing c = tick-passes _ _ _ (accepted-at c)
 
 -- by either way the answer, the state and the ids are the tick's
-is-ticked : (m : tie.At-match5-came Inv-loop2 μ-loop2 Inv-loop μ-loop) → let v = m .before in let time = tick-asked v .call2 .given .0 .0 in let d = head (tick-turn v) .loop .c in
+is-ticked : (m : At tie.At-match5-came) → let v = m .before in let time = tick-asked v .call2 .given .0 .0 in let d = head (tick-turn v) .loop .c in
     (_≡_ {A = Ticked} (record { answer = m .match5 .answer; state = m .match5 .c }) (ticked time (lent-at v) d)) × (m .match5 .ids ≡ lentOf time (lent-at v) d)
 is-ticked m =
     let v = m .before in
@@ -75,36 +75,36 @@ is-ticked m =
     rw (w .3, w .4, w .5) (refuses time (lent-at v) d (clock-refuses time (length (lent-at v)) d (v .verdict .ensures) (w .1 .given .1))))
     (m .match5 .came)
 
-pub verdict-requires : tie.Need-verdict-requires Inv-loop2 μ-loop2 Inv-loop μ-loop
+pub verdict-requires : At tie.Need-verdict-requires
 verdict-requires c κs = head (c .before .before .before .before) .loop .inv .sound .clock
 
 pub growth-requires : At tie.Need-growth-requires
 growth-requires c κs = passing-is-near (head (tick-turn (c .before .before)) .loop .inv .sound) (passing c)
 
-pub loop2-holds : tie.Need-loop2-holds Inv-loop2 μ-loop2 Inv-loop μ-loop
+pub loop2-holds : At tie.Need-loop2-holds
 loop2-holds c = begins (head (tick-turn (judged-at c)) .loop .inv .sound) (c .growth .result) _
 
 -- where a leaf's turn begins
-abbrev walk-at : tie.After-lowest Inv-loop2 μ-loop2 Inv-loop μ-loop → tie.At-loop2 Inv-loop2 μ-loop2 Inv-loop μ-loop
+abbrev walk-at : At tie.After-lowest → At tie.At-loop2
 walk-at n = n .before .before
 
-sound-at : (l : tie.At-loop2 Inv-loop2 μ-loop2 Inv-loop μ-loop) → Sound (head (tick-turn (judged-at (l .before))) .loop .c)
+sound-at : (l : At tie.At-loop2) → Sound (head (tick-turn (judged-at (l .before))) .loop .c)
 sound-at l = head (tick-turn (judged-at (l .before))) .loop .inv .sound
 
-gain-small : (l : tie.At-loop2 Inv-loop2 μ-loop2 Inv-loop μ-loop) → l .before .growth .result .0 ≤ gainMost
+gain-small : (l : At tie.At-loop2) → l .before .growth .result .0 ≤ gainMost
 gain-small l = grown-small (passing-is-near (sound-at l) (passing (l .before .before))) (l .before .growth .ensures)
 
 -- the buffer has 504 places, and what is lent of it and comes back is counted by that
-ids-long : (l : tie.At-loop2 Inv-loop2 μ-loop2 Inv-loop μ-loop) → length (l .loop2 .ids) ≡ 504
+ids-long : (l : At tie.At-loop2) → length (l .loop2 .ids) ≡ 504
 ids-long l = stands-kept (l .loop2 .inv .going .front) ∙ lent-long (judged-at (l .before))
 
-stands-at : (l : tie.At-loop2 Inv-loop2 μ-loop2 Inv-loop μ-loop) → l .loop2 .done ≤ 504
+stands-at : (l : At tie.At-loop2) → l .loop2 .done ≤ 504
 stands-at l = omega (arith, ids-long l, stands-left (l .loop2 .inv .going .front))
 
-rest-at : (l : tie.At-loop2 Inv-loop2 μ-loop2 Inv-loop μ-loop) → restOf (l .loop2 .ids) (l .loop2 .done) ≡ take (504 - l .loop2 .done) (drop (l .loop2 .done) (l .loop2 .ids))
+rest-at : (l : At tie.At-loop2) → restOf (l .loop2 .ids) (l .loop2 .done) ≡ take (504 - l .loop2 .done) (drop (l .loop2 .done) (l .loop2 .ids))
 rest-at l = ap (λ (k : ℕ). take (k - l .loop2 .done) (drop (l .loop2 .done) (l .loop2 .ids))) (ids-long l)
 
-back-at : (l : tie.At-loop2 Inv-loop2 μ-loop2 Inv-loop μ-loop) {ys xs zs : List ℕ} → ys ≡ xs
+back-at : (l : At tie.At-loop2) {ys xs zs : List ℕ} → ys ≡ xs
     → zs ≡ take (l .loop2 .done) (l .loop2 .ids) ++ (ys ++ drop (504 - l .loop2 .done) (drop (l .loop2 .done) (l .loop2 .ids))) → zs ≡ putBack (l .loop2 .ids) (l .loop2 .done) ys
 back-at l {ys} e z =
     z ∙ ap (λ (k : ℕ). take (l .loop2 .done) (l .loop2 .ids) ++ (ys ++ drop (k - l .loop2 .done) (drop (l .loop2 .done) (l .loop2 .ids)))) (sym (ids-long l))
@@ -112,46 +112,46 @@ back-at l {ys} e z =
 pub mul-wide : At tie.Need-mul-wide
 mul-wide c = record { fits = omega (arith, c .lowest .ensures .node) }
 
-pub element-copy-out-wide : tie.Need-element-copy-out-wide Inv-loop2 μ-loop2 Inv-loop μ-loop
+pub element-copy-out-wide : At tie.Need-element-copy-out-wide
 element-copy-out-wide c = c .lowest .ensures .node
 
 pub mul-row-3 : At tie.Need-mul-row-3
 mul-row-3 c = record { fits = omega (arith, c .before .before .lowest .ensures .node) }
 
-pub element-copy-out-row-3 : tie.Need-element-copy-out-row-3 Inv-loop2 μ-loop2 Inv-loop μ-loop
+pub element-copy-out-row-3 : At tie.Need-element-copy-out-row-3
 element-copy-out-row-3 c = c .before .before .lowest .ensures .node
 
-pub mul-settle : tie.Need-mul-settle Inv-loop2 μ-loop2 Inv-loop μ-loop
+pub mul-settle : At tie.Need-mul-settle
 mul-settle c = record { fits = omega (arith, c .before .before .before .lowest .ensures .node) }
 
-pub element-copy-out-settle : tie.Need-element-copy-out-settle Inv-loop2 μ-loop2 Inv-loop μ-loop
+pub element-copy-out-settle : At tie.Need-element-copy-out-settle
 element-copy-out-settle c = c .before .before .before .lowest .ensures .node
 
-pub settle-requires : tie.Need-settle-requires Inv-loop2 μ-loop2 Inv-loop μ-loop
+pub settle-requires : At tie.Need-settle-requires
 settle-requires c κs =
     let node = c .before .before .before in
     let at = walk-at node in
     row-fits (sound-at at) (at .before .growth .result) (at .loop2 .inv) (node .lowest .ensures) (c .before .wide .ensures) (gain-small at)
 
-pub mul-queue-2 : tie.Need-mul-queue-2 Inv-loop2 μ-loop2 Inv-loop μ-loop
+pub mul-queue-2 : At tie.Need-mul-queue-2
 mul-queue-2 c = record { fits = omega (arith, c .before .before .before .before .before .before .lowest .ensures .node) }
 
-pub element-copy-out-queue-2 : tie.Need-element-copy-out-queue-2 Inv-loop2 μ-loop2 Inv-loop μ-loop
+pub element-copy-out-queue-2 : At tie.Need-element-copy-out-queue-2
 element-copy-out-queue-2 c = c .before .before .before .before .before .before .lowest .ensures .node
 
-pub mul-ids : tie.Need-mul-ids Inv-loop2 μ-loop2 Inv-loop μ-loop
+pub mul-ids : At tie.Need-mul-ids
 mul-ids c = record { fits = omega (arith, stands-at (walk-at (c .before .before .before .before .before .before .before))) }
 
-pub sub-released : tie.Need-sub-released Inv-loop2 μ-loop2 Inv-loop μ-loop
+pub sub-released : At tie.Need-sub-released
 sub-released c = stands-at (walk-at (c .before .before .before .before .before .before .before))
 
-pub part-ids-start : tie.Need-part-ids-start Inv-loop2 μ-loop2 Inv-loop μ-loop
+pub part-ids-start : At tie.Need-part-ids-start
 part-ids-start c = stands-at (walk-at (c .before .before .before .before .before .before .before))
 
-pub part-ids-end : tie.Need-part-ids-end Inv-loop2 μ-loop2 Inv-loop μ-loop
+pub part-ids-end : At tie.Need-part-ids-end
 part-ids-end c = omega (arith, ids-long (walk-at (c .before .before .before .before .before .before .before)))
 
-pub released-requires : tie.Need-released-requires Inv-loop2 μ-loop2 Inv-loop μ-loop
+pub released-requires : At tie.Need-released-requires
 released-requires c κs =
     let test = c .before .before in
     let settled = test .before .before in
@@ -163,25 +163,25 @@ released-requires c κs =
     (settled .settle .ensures) (test .if1 .taken) (passing (at .before .before) .room) (gain-small at) in
     (fits .0, subst (λ (xs : List ℕ). getD (at .loop2 .c .queues) (node .lowest .result) (lengthOnly 0) .len ≤ length xs) (rest-at at) (fits .1))
 
-pub mul-row-4 : tie.Need-mul-row-4 Inv-loop2 μ-loop2 Inv-loop μ-loop
+pub mul-row-4 : At tie.Need-mul-row-4
 mul-row-4 c = record { fits = omega (arith, c .before .before .before .before .before .before .before .before .before .before .before .lowest .ensures .node) }
 
-pub element-set-from-row : tie.Need-element-set-from-row Inv-loop2 μ-loop2 Inv-loop μ-loop
+pub element-set-from-row : At tie.Need-element-set-from-row
 element-set-from-row c = c .before .before .before .before .before .before .before .before .before .before .before .lowest .ensures .node
 
-pub mul-c : tie.Need-mul-c Inv-loop2 μ-loop2 Inv-loop μ-loop
+pub mul-c : At tie.Need-mul-c
 mul-c c = record { fits = omega (arith, c .before .before .before .before .before .before .before .before .before .before .before .lowest .ensures .node) }
 
-pub way-write-given-c : tie.Need-way-write-given-c Inv-loop2 μ-loop2 Inv-loop μ-loop
+pub way-write-given-c : At tie.Need-way-write-given-c
 way-write-given-c c = (c .before .before .before .before .before .before .before .before .before .before .before .lowest .ensures .node, tt)
 
-pub mul-c-2 : tie.Need-mul-c-2 Inv-loop2 μ-loop2 Inv-loop μ-loop
+pub mul-c-2 : At tie.Need-mul-c-2
 mul-c-2 c = record { fits = omega (arith, c .before .before .before .before .before .before .before .before .before .before .before .before .lowest .ensures .node) }
 
-pub way-write-given-c-2 : tie.Need-way-write-given-c-2 Inv-loop2 μ-loop2 Inv-loop μ-loop
+pub way-write-given-c-2 : At tie.Need-way-write-given-c-2
 way-write-given-c-2 c = (c .before .before .before .before .before .before .before .before .before .before .before .before .lowest .ensures .node, tt)
 
-pub add-done : tie.Need-add-done Inv-loop2 μ-loop2 Inv-loop μ-loop
+pub add-done : At tie.Need-add-done
 add-done c =
     let released = c .before .before .before .before .before in
     let test = released .before .before .before in
@@ -195,21 +195,21 @@ add-done c =
     (released .released .ensures .0, released .released .ensures .1 ∙ ap (lentAfter _) (sym (rest-at at))) in
     record { fits = omega (arith, fits, lent-long (judged-at (at .before))) }
 
-pub mul-row-5 : tie.Need-mul-row-5 Inv-loop2 μ-loop2 Inv-loop μ-loop
+pub mul-row-5 : At tie.Need-mul-row-5
 mul-row-5 c = record { fits = omega (arith, c .before .before .before .before .before .before .lowest .ensures .node) }
 
-pub element-set-from-row-2 : tie.Need-element-set-from-row-2 Inv-loop2 μ-loop2 Inv-loop μ-loop
+pub element-set-from-row-2 : At tie.Need-element-set-from-row-2
 element-set-from-row-2 c = c .before .before .before .before .before .before .lowest .ensures .node
 
-pub remove-requires : tie.Need-remove-requires Inv-loop2 μ-loop2 Inv-loop μ-loop
+pub remove-requires : At tie.Need-remove-requires
 remove-requires c κs = c .before .before .before .before .before .before .lowest .ensures .node
 
-pub loop2-less : tie.Need-loop2-less Inv-loop2 μ-loop2 Inv-loop μ-loop
+pub loop2-less : At tie.Need-loop2-less
 loop2-less c =
     let node = c .before .before .before .before .before .before .before in
     less-left (walk-at node .loop2 .inv .passed) (node .lowest .ensures) (c .remove .ensures)
 
-pub loop2-again : tie.Need-loop2-again Inv-loop2 μ-loop2 Inv-loop μ-loop
+pub loop2-again : At tie.Need-loop2-again
 loop2-again c =
     let settled = c .before .before .before in
     let share = settled .before .before in
@@ -227,7 +227,7 @@ loop2-again c =
     (settled .settle .ensures) (w .0 .left) (c .remove .ensures)))
     (c .before .if1 .came)
 
-pub advanced-requires : tie.Need-advanced-requires Inv-loop2 μ-loop2 Inv-loop μ-loop
+pub advanced-requires : At tie.Need-advanced-requires
 advanced-requires c κs =
     let at = c .before in
     (passing-is-near (sound-at at) (passing (at .before .before)), at .before .growth .ensures)
@@ -235,13 +235,13 @@ advanced-requires c κs =
 ids-kept : (m : At tie.At-match5-came) → length (m .match5 .ids) ≡ 504
 ids-kept m = ⊎-elim (λ w. rw (w .7) (ids-long (record { before = record { before = record { before = record { before = m .before; match5 = w .0 }; enum-told5 = w .1 }; growth = w .2 }; loop2 = w .3 }))) (λ w. rw (w .4) (lent-long (m .before))) (m .match5 .came)
 
-pub slice-aggregate-put-ticked : tie.Need-slice-aggregate-put-ticked Inv-loop2 μ-loop2 Inv-loop μ-loop
+pub slice-aggregate-put-ticked : At tie.Need-slice-aggregate-put-ticked
 slice-aggregate-put-ticked c = sym (ids-kept (c .before))
 
-pub sub-put-ticked : tie.Need-sub-put-ticked Inv-loop2 μ-loop2 Inv-loop μ-loop
+pub sub-put-ticked : At tie.Need-sub-put-ticked
 sub-put-ticked c = left-at (tick-turn (c .before .before))
 
-pub part-put-ticked-start : tie.Need-part-put-ticked-start Inv-loop2 μ-loop2 Inv-loop μ-loop
+pub part-put-ticked-start : At tie.Need-part-put-ticked-start
 part-put-ticked-start c = left-at (tick-turn (c .before .before))
 
 pub put-ticked-requires : At tie.Need-put-ticked-requires
@@ -250,15 +250,15 @@ put-ticked-requires c κs =
     let t = tick-turn (m .before) in
     (can-print (head t .loop .inv .sound) _ _ (is-ticked m .0) (lent-long (m .before)) (ids-kept m), room-at t _ (omega arith))
 
-pub add-count-2 : tie.Need-add-count-2 Inv-loop2 μ-loop2 Inv-loop μ-loop
+pub add-count-2 : At tie.Need-add-count-2
 add-count-2 c =
     let put = c .before .before in
     count-at (tick-turn (put .before .before .before .before)) (tickLines _ _) (put .put-ticked .ensures) (put .put-ticked .kept .1 .1 .0)
 
-pub loop-less-2 : tie.Need-loop-less-2 Inv-loop2 μ-loop2 Inv-loop μ-loop
+pub loop-less-2 : At tie.Need-loop-less-2
 loop-less-2 c = less-at (tick-turn (c .before .before .before .before .before .before))
 
-pub loop-again-2 : tie.Need-loop-again-2 Inv-loop2 μ-loop2 Inv-loop μ-loop
+pub loop-again-2 : At tie.Need-loop-again-2
 loop-again-2 c =
     let put = c .before .before in
     let m = put .before .before .before in

@@ -16,6 +16,7 @@ use Rattle.rules.specs.Laws.Buffers.{stands-left, stands-fits}
 use Rattle.rules.specs.declared.budget.Controller.{Controller}
 use Rattle.rules.specs.declared.replay.Call.{Call}
 use Rattle.tick.proofs.Going.{Walking}
+use Rattle.plan.proofs.Steps.{CountedTo}
 use Rattle.calls.proofs.Answered.{Answered}
 use Rattle.calls.proofs.Running.{Running, goes, asks, called}
 use Rattle.calls.proofs.run.Tie as tie
@@ -33,10 +34,21 @@ Inv-loop trace place most out₀ c₀ ids₀ at₀ count₀ left₀ out c ids at
 abbrev pub μ-loop : tie.MeasureT-loop
 μ-loop trace place most out₀ c₀ ids₀ at₀ count₀ left₀ out c ids at count left = left
 
-abbrev pub Turn : Type 0
-Turn = tie.After-next-place Inv-loop2 μ-loop2 Inv-loop μ-loop
+-- how many wait is counted before a plan, as in `plan` itself
+abbrev pub Inv-loop3 : tie.InvT-loop3
+Inv-loop3 trace place most out c ids at count left here clock waiting₀ n₀ waiting n = CountedTo c n waiting × (n ≤ 64)
 
-abbrev pub head : Turn → tie.At-loop Inv-loop2 μ-loop2 Inv-loop μ-loop
+abbrev pub μ-loop3 : tie.MeasureT-loop3
+μ-loop3 trace place most out c ids at count left here clock waiting₀ n₀ waiting n = 64 - n
+
+-- a station or a need of `run`, with these invariants and measures
+abbrev pub At : (tie.InvT-loop2 → tie.MeasureT-loop2 → tie.InvT-loop3 → tie.MeasureT-loop3 → tie.InvT-loop → tie.MeasureT-loop → Type 0) → Type 0
+At station = station Inv-loop2 μ-loop2 Inv-loop3 μ-loop3 Inv-loop μ-loop
+
+abbrev pub Turn : Type 0
+Turn = At tie.After-next-place
+
+abbrev pub head : Turn → At tie.At-loop
 head t = t .before .before .before .before
 
 abbrev pub rest : Turn → List ℕ
