@@ -8,10 +8,9 @@ use lib.ListN.{length, drop}
 use Rattle.rules.specs.Numbers.{lineRoom}
 use Rattle.rules.specs.Refusals.{number}
 use Rattle.rules.specs.Trace.{readAt}
-use Rattle.rules.specs.Entries.{toVrate}
 use Rattle.rules.specs.Replay.{Called, bioCall, tickCall, planCall, setCall, isStopped, stepped, nextPlace, beginning}
 use Rattle.rules.specs.declared.budget.Controller.{Controller}
-use Rattle.rules.specs.declared.trace.Record.the-variants.{Node, Model as ModelOf, Start, Bio as BioOf, Tick, Plan, Vrate}
+use Rattle.rules.specs.declared.trace.Record.the-variants.{Node, Model as ModelOf, Start, Bio as BioOf, Tick, Plan, Vrate, Weight}
 use Rattle.rules.specs.declared.trace.Read.{Read}
 use Rattle.rules.specs.declared.trace.Read.the-variants.{Found, End, Refused as Unread}
 use Rattle.rules.specs.declared.replay.Phase.{Phase}
@@ -19,6 +18,7 @@ use Rattle.rules.specs.declared.replay.Phase.the-variants.{Setup, Priced
 use Rattle.rules.specs.declared.replay.Replay.{Replay}
 use Rattle.rules.specs.declared.replay.Call.{Call}
 use Rattle.rules.specs.declared.replay.Call.the-variants.{Bio as CallBio, Tick as CallTick, Plan as CallPlan, Set as CallSet, None as NoCall}
+use Rattle.rules.specs.declared.replay.Setting.the-variants.{Vrate as SetVrate, Weight as SetWeight}
 use Rattle.rules.specs.declared.replay.Printed.{Printed}
 use Rattle.rules.specs.declared.replay.Printed.the-variants.{Bytes as BytesOf, Short}
 use Rattle.rules.specs.declared.replay.Stepped.{Stepped}
@@ -100,7 +100,8 @@ callOf (Found (Start time) next) = NoCall
 callOf (Found (BioOf b) next) = CallBio b
 callOf (Found (Tick time) next) = CallTick time
 callOf (Found Plan next) = CallPlan
-callOf (Found (Vrate v) next) = CallSet (toVrate v)
+callOf (Found (Vrate v) next) = CallSet (SetVrate v)
+callOf (Found (Weight n w) next) = CallSet (SetWeight n w)
 callOf End = NoCall
 callOf (Unread x) = NoCall
 

@@ -5,10 +5,10 @@ use Prim.Native.Nat.{ℕ}
 use lib.ListN.{length, replicate}
 use Rattle.rules.specs.Numbers.{nodesMost, bpsLeast, iopsLeast}
 use Rattle.rules.specs.Cost.{priced, costOf}
-use Rattle.rules.specs.Budget.{fresh, submission}
+use Rattle.rules.specs.Budget.{fresh, submission, reweighted}
 use Rattle.rules.specs.Tick.{growth, releases, lentAfter, tick}
 use Rattle.rules.specs.Plan.{plan, withVrate}
-use Rattle.rules.specs.Refusals.{firstOf, rateChecks, treeChecks, costChecks, startChecks, submitChecks, tickChecks, planChecks, vrateChecks}
+use Rattle.rules.specs.Refusals.{firstOf, rateChecks, treeChecks, costChecks, startChecks, submitChecks, tickChecks, planChecks, vrateChecks, weightChecks}
 use Rattle.rules.specs.declared.cost.Rates.{Rates}
 use Rattle.rules.specs.declared.cost.Model.{Model}
 use Rattle.rules.specs.declared.cost.Bio.{Bio}
@@ -19,6 +19,7 @@ use Rattle.rules.specs.declared.budget.Submitted.{Submitted}
 use Rattle.rules.specs.declared.budget.Ticked.{Ticked}
 use Rattle.rules.specs.declared.budget.Outcome.{Outcome}
 use Rattle.rules.specs.declared.replay.Setting.{Setting}
+use Rattle.rules.specs.declared.replay.Setting.the-variants.{Vrate, Weight}
 use Rattle.rules.specs.declared.refusals.Pricing.{Pricing}
 use Rattle.rules.specs.declared.refusals.Pricing.the-variants.{Priced, Refused as Unpriced}
 use Rattle.rules.specs.declared.refusals.Costing.{Costing}
@@ -113,9 +114,15 @@ vratedBy (Refused x) v c = record { answer = Refused x; state = c }
 unfoldable pub vrated : ℕ → Controller → Outcome
 vrated v c = vratedBy (firstOf (vrateChecks v)) v c
 
--- ---- a call that sets one thing and does nothing else
-abbrev pub toVrate : ℕ → Setting
-toVrate v = record { vrate = v }
+-- ---- weight
+unfoldable pub weightedBy : Verdict → ℕ → ℕ → Controller → Outcome
+weightedBy Accepted n w c = record { answer = Accepted; state = reweighted n w c }
+weightedBy (Refused x) n w c = record { answer = Refused x; state = c }
 
+unfoldable pub weighted : ℕ → ℕ → Controller → Outcome
+weighted n w c = weightedBy (firstOf (weightChecks n w (c .tree))) n w c
+
+-- ---- a call that sets one thing, and charges nothing
 abbrev pub setBy : Setting → Controller → Outcome
-setBy x c = vrated (x .vrate) c
+setBy (Vrate v) c = vrated v c
+setBy (Weight n w) c = weighted n w c

@@ -1,4 +1,5 @@
--- Refusal numbers: the number of each, and for each entry what it checks, in the table's order.
+-- Refusal numbers: the number of each, and for each entry what it checks, in the table's order, or in that of the request which
+-- adds it.
 -- Assumes nothing.
 use mathlib.Core.Bool.{Bool, true, false, cond, not, _&&_, _||_}
 use mathlib.Core.List.{List, [], _∷_, _++_}
@@ -7,7 +8,7 @@ use lib.Dec.{eqb, leb, ltb}
 use lib.ListN.{length, getD, drop}
 use Rattle.rules.specs.Numbers.{costMost, queueRoom, debtMost, elapsedMost, vtimeMost, sinceMost, letterI, letterW, letterD}
 use Rattle.rules.specs.Cost.{ratesInRange, bioInRange, costOf}
-use Rattle.rules.specs.Tree.{treeFault, newestFault, isThin, isLeaf}
+use Rattle.rules.specs.Tree.{weightInRange, treeFault, newestFault, isThin, isLeaf, isBelowRoot, withWeight}
 use Rattle.rules.specs.Budget.{rowAt, queueAt, wouldBe}
 use Rattle.rules.specs.Tick.{growth, waitingAll}
 use Rattle.rules.specs.Plan.{vrateInRange}
@@ -23,7 +24,7 @@ use Rattle.rules.specs.declared.budget.Row.{Row}
 use Rattle.rules.specs.declared.budget.Queue.{Queue}
 use Rattle.rules.specs.declared.budget.Controller.{Controller}
 use Rattle.rules.specs.declared.refusals.Refusal.{Refusal}
-use Rattle.rules.specs.declared.refusals.Refusal.the-variants.{BadTree, ThinTree, BadRate, NoLeaf, BadBio, TooDear, QueueFull, DebtFull, TimeBack, TimeFar, ClockFull, PlanDue, FewPlaces, NothingPassed, BadVrate, UnknownKind, CutShort, WrongPhase, ShortBuffer}
+use Rattle.rules.specs.declared.refusals.Refusal.the-variants.{BadTree, ThinTree, BadRate, NoLeaf, BadBio, TooDear, QueueFull, DebtFull, TimeBack, TimeFar, ClockFull, PlanDue, FewPlaces, NothingPassed, BadVrate, UnknownKind, CutShort, WrongPhase, NotBelowRoot, ShortBuffer}
 use Rattle.rules.specs.declared.refusals.Verdict.{Verdict}
 use Rattle.rules.specs.declared.refusals.Verdict.the-variants.{Accepted, Refused}
 use Rattle.rules.specs.declared.refusals.Answer.{Answer}
@@ -60,6 +61,7 @@ number BadVrate = 15
 number UnknownKind = 16
 number CutShort = 17
 number WrongPhase = 18
+number NotBelowRoot = 19
 number ShortBuffer = 28
 
 -- ---- "Where several hold in one call, .."
@@ -252,6 +254,15 @@ planChecks c = (eqb (c .clock .since .0) 0 ⇒ NothingPassed) ∷ []
 
 unfoldable pub vrateChecks : ℕ → List Check
 vrateChecks v = (not (vrateInRange v) ⇒ BadVrate) ∷ []
+
+-- request One: "Refusal 19 if the node is the root or absent, then 1 for the weight, then 2 if the new tree is thin"; thin is
+-- judged with all leaves active, as ever
+unfoldable pub weightChecks : ℕ → ℕ → Tree → List Check
+weightChecks n w t =
+    (not (isBelowRoot t n) ⇒ NotBelowRoot)
+    ∷ (not (weightInRange w) ⇒ BadTree (Weight n))
+    ∷ (isThin (withWeight n w t) ⇒ ThinTree)
+    ∷ []
 
 -- 16 and 17 of a place; at the end neither holds
 unfoldable pub readChecks : List ℕ → ℕ → List Check

@@ -9,7 +9,7 @@ use Rattle.rules.specs.Numbers.{nodesMost, leafMost, waitingMost, letter
 use Rattle.rules.specs.Words.{joinTo, has}
 use Rattle.rules.specs.Budget.{fresh}
 use Rattle.rules.specs.Refusals.{number, firstOf, nodeChecks, rateChecks}
-use Rattle.rules.specs.Entries.{noTree, slowest, slowestModel, started, submitted, ticked, lentOf, planned, toVrate, setBy}
+use Rattle.rules.specs.Entries.{noTree, slowest, slowestModel, started, submitted, ticked, lentOf, planned, setBy}
 use Rattle.rules.specs.Trace.{kindOf, readAt}
 use Rattle.rules.specs.declared.cost.Rates.{Rates}
 use Rattle.rules.specs.declared.cost.Bio.{Bio}
@@ -24,13 +24,14 @@ use Rattle.rules.specs.declared.refusals.Answer.the-variants.{Issued, Wa
 use Rattle.rules.specs.declared.refusals.Count.{Count as Counted}
 use Rattle.rules.specs.declared.refusals.Count.the-variants.{Released, Refused as Unticked}
 use Rattle.rules.specs.declared.trace.Record.{Record}
-use Rattle.rules.specs.declared.trace.Record.the-variants.{Node, Model as ModelOf, Start, Bio as BioOf, Tick, Plan, Vrate}
+use Rattle.rules.specs.declared.trace.Record.the-variants.{Node, Model as ModelOf, Start, Bio as BioOf, Tick, Plan, Vrate, Weight}
 use Rattle.rules.specs.declared.trace.Read.{Read}
 use Rattle.rules.specs.declared.trace.Read.the-variants.{Found, End, Refused as Unread}
 use Rattle.rules.specs.declared.replay.Phase.{Phase}
 use Rattle.rules.specs.declared.replay.Phase.the-variants.{Setup, Priced, Running, Stopped}
 use Rattle.rules.specs.declared.replay.Replay.{Replay}
 use Rattle.rules.specs.declared.replay.Setting.{Setting}
+use Rattle.rules.specs.declared.replay.Setting.the-variants.{Vrate as SetVrate, Weight as SetWeight}
 
 -- ---- lines: a letter, a blank before each number, the number's decimal digits, a line feed
 unfoldable pub digitsIn : ℕ → ℕ → List ℕ
@@ -88,7 +89,7 @@ unfoldable pub verdictLines : Verdict → List ℕ
 verdictLines Accepted = []
 verdictLines (Refused x) = refusalLine x
 
--- ---- phases: "Setup: 1 .., 2 .., 3 ... After start: 4 .. 7"; "Exactly one model comes before start; .." (DECISIONS 16)
+-- ---- phases: "Setup: 1 .., 2 .., 3 ... After start: 4 .. 7", and 8 with request One; "Exactly one model comes before start; .." (DECISIONS 16)
 unfoldable pub inPhase : Phase → ℕ → Bool
 inPhase Setup kind = eqb kind 1 || eqb kind 2
 inPhase Priced kind = eqb kind 1 || eqb kind 3
@@ -174,7 +175,8 @@ recordStep (Start time) s = startStep (started (s .tree) (s .rates) time .answer
 recordStep (BioOf b) s = goesOn (bioCall b (s .state)) s
 recordStep (Tick time) s = goesOn (tickCall time (s .state)) s
 recordStep Plan s = goesOn (planCall (s .state)) s
-recordStep (Vrate v) s = goesOn (setCall (toVrate v) (s .state)) s
+recordStep (Vrate v) s = goesOn (setCall (SetVrate v) (s .state)) s
+recordStep (Weight n w) s = goesOn (setCall (SetWeight n w) (s .state)) s
 
 -- ---- what is read at a place: a record, which is checked for 18 and then for its own refusals, the end, or 16 or 17
 unfoldable pub readStep : Read → Replay → Step

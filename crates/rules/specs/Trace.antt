@@ -9,7 +9,7 @@ use Rattle.rules.specs.declared.cost.Rates.{Rates}
 use Rattle.rules.specs.declared.cost.Bio.{Bio}
 use Rattle.rules.specs.declared.refusals.Refusal.the-variants.{UnknownKind, CutShort, ShortBuffer}
 use Rattle.rules.specs.declared.trace.Record.{Record}
-use Rattle.rules.specs.declared.trace.Record.the-variants.{Node, Model, Start, Bio as BioOf, Tick, Plan, Vrate}
+use Rattle.rules.specs.declared.trace.Record.the-variants.{Node, Model, Start, Bio as BioOf, Tick, Plan, Vrate, Weight}
 use Rattle.rules.specs.declared.trace.Read.{Read}
 use Rattle.rules.specs.declared.trace.Read.the-variants.{Found, End, Refused}
 use Rattle.rules.specs.declared.trace.Write.{Write}
@@ -24,7 +24,7 @@ unfoldable pub numberOf : List ℕ → ℕ
 numberOf [] = 0
 numberOf (b ∷ bs) = b + 256 * numberOf bs
 
--- ---- "One byte of kind, ..": the widths of the fields of kinds 1 to 7
+-- ---- "One byte of kind, ..": the widths of the fields of each kind, from 1 on
 abbrev pub layouts : List (List ℕ)
 layouts =
     (1 ∷ 2 ∷ [])
@@ -34,6 +34,7 @@ layouts =
     ∷ (8 ∷ [])
     ∷ []
     ∷ (2 ∷ [])
+    ∷ (1 ∷ 2 ∷ [])
     ∷ []
 
 unfoldable pub isKind : ℕ → Bool
@@ -46,7 +47,7 @@ abbrev pub total : List ℕ → ℕ
 total [] = 0
 total (w ∷ ws) = w + total ws
 
--- ---- "Setup: 1 node .."; "After start: 4 bio .."
+-- ---- "Setup: 1 node .."; "After start: 4 bio .."; request One's "trace record 8"
 abbrev pub kindOf : Record → ℕ
 kindOf (Node p w) = 1
 kindOf (Model r) = 2
@@ -55,6 +56,7 @@ kindOf (BioOf b) = 4
 kindOf (Tick t) = 5
 kindOf Plan = 6
 kindOf (Vrate v) = 7
+kindOf (Weight n w) = 8
 
 -- the numbers of a record, in the order of its layout
 unfoldable pub fieldsOf : Record → List ℕ
@@ -65,6 +67,7 @@ fieldsOf (BioOf b) = b .node ∷ b .flags ∷ b .id ∷ b .sector ∷ b .bytes �
 fieldsOf (Tick t) = t ∷ []
 fieldsOf Plan = []
 fieldsOf (Vrate v) = v ∷ []
+fieldsOf (Weight n w) = n ∷ w ∷ []
 
 abbrev pub ratesOf : List ℕ → Rates
 ratesOf fs = record {
@@ -93,7 +96,8 @@ recordOf kind fs =
     (cond (eqb kind 3) (Start (getD fs 0 0))
     (cond (eqb kind 4) (BioOf (bioOf fs))
     (cond (eqb kind 5) (Tick (getD fs 0 0))
-    (cond (eqb kind 6) Plan (Vrate (getD fs 0 0)))))))
+    (cond (eqb kind 6) Plan
+    (cond (eqb kind 7) (Vrate (getD fs 0 0)) (Weight (getD fs 0 0) (getD fs 1 0))))))))
 
 -- ---- written
 unfoldable pub bodyOf : List ℕ → List ℕ → List ℕ

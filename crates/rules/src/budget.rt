@@ -50,7 +50,7 @@ pub struct Controller {
     pub queues: [Queue; 64],
 }
 
-// The new state beside the answer: of start, plan and vrate, of a submission, and of a tick.
+// The new state beside the answer: of start, plan, vrate and weight, of a submission, and of a tick.
 pub struct Outcome {
     pub answer: Verdict,
     pub state: Controller,

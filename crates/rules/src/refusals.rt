@@ -1,4 +1,4 @@
-// Refusals and answers. What number each refusal has in document 01 is said once, in specs/Refusals.antt.
+// Refusals and answers. What number each refusal has in the documents is said once, in specs/Refusals.antt.
 use crate::cost::Model;
 use crate::tree::Fault;
 use crate::units::Abs;
@@ -22,6 +22,7 @@ pub enum Refusal {
     UnknownKind,
     CutShort,
     WrongPhase,
+    NotBelowRoot,
     ShortBuffer,
 }
 
@@ -37,7 +38,7 @@ pub enum Costing {
     Refused(Refusal),
 }
 
-// What a tree's check, start, plan and vrate answer.
+// What a tree's check, start, plan, vrate and weight answer.
 pub enum Verdict {
     Accepted,
     Refused(Refusal),

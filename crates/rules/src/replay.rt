@@ -45,9 +45,10 @@ pub struct Fed {
     pub replay: Replay,
 }
 
-// What is set by a call that does nothing else.
-pub struct Setting {
-    pub vrate: u16,
+// What is set by a call that charges nothing: the vrate, or one node's weight.
+pub enum Setting {
+    Vrate(u16),
+    Weight(u8, u16),
 }
 
 // What a record asks of the controller, if it is one that comes after start.

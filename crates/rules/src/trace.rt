@@ -11,6 +11,7 @@ pub enum Record {
     Tick(u64),
     Plan,
     Vrate(u16),
+    Weight(u8, u16),
 }
 
 // A record with the place behind it, the end of the trace, or why there is no record here.

@@ -16,7 +16,7 @@ use Rattle.rules.specs.Budget.{emptyQueue, emptyRow, fresh, rowAt, queue
 use Rattle.rules.specs.Tick.{growth, capped, turn, releases, waitingAll}
 use Rattle.rules.specs.Plan.{usageAll, isQuiet, targetOf, isDonor, sumOver, quietIn, vrateInRange}
 use Rattle.rules.specs.Refusals.{Check, firstOf, isFault, verdictNumber, readNumber, writeNumber, modelValues, costChecks, roomChecks, tickChecks, planChecks}
-use Rattle.rules.specs.Entries.{costing, started, submitted, ticked, lentOf, planned, vrated, toVrate, slowest}
+use Rattle.rules.specs.Entries.{costing, started, submitted, ticked, lentOf, planned, vrated, slowest}
 use Rattle.rules.specs.Trace.{layouts, recordBytes, writing, readAt}
 use Rattle.rules.specs.Replay.{digits, shareLines, inPhase, beginning, grown, Step, stepped, nextPlace, tickCall, replay, within, rootTree}
 use Rattle.rules.specs.Ledger.{Call, costWaiting, costOfFirst, waiting, owed, costOn, releasedAt, repaidAt, forgivenAt, accepted, issued, released, repaid, forgiven, generated, charged, saved}
@@ -29,9 +29,10 @@ use Rattle.rules.specs.declared.budget.Row.{Row}
 use Rattle.rules.specs.declared.budget.Queue.{Queue}
 use Rattle.rules.specs.declared.budget.Clock.{Clock}
 use Rattle.rules.specs.declared.budget.Controller.{Controller}
+use Rattle.rules.specs.declared.replay.Setting.the-variants.{Vrate as SetVrate}
 use Rattle.rules.specs.declared.refusals.Answer.the-variants.{Waits, OnDebt}
 use Rattle.rules.specs.declared.trace.Record.{Record}
-use Rattle.rules.specs.declared.trace.Record.the-variants.{Node, Model as ModelOf, Start, Bio as BioOf, Tick, Plan, Vrate}
+use Rattle.rules.specs.declared.trace.Record.the-variants.{Node, Model as ModelOf, Start, Bio as BioOf, Tick, Plan, Vrate, Weight}
 use Rattle.rules.specs.declared.trace.Read.the-variants.{Found}
 use Rattle.rules.specs.declared.replay.Phase.{Phase}
 use Rattle.rules.specs.declared.replay.Phase.the-variants.{Setup, Priced, Running, Stopped}
@@ -46,7 +47,7 @@ is t = B 0 (cond t 1 0) 1
 abbrev isNot : Bool → Case
 isNot t = B 0 (cond t 1 0) 0
 
-abbrev gives : ℕ → List Check → Case
+abbrev pub gives : ℕ → List Check → Case
 gives n ks = B 0 (verdictNumber (firstOf ks)) n
 
 -- a tree of one leaf, so many levels below the root
@@ -98,7 +99,7 @@ abbrev noKind : ℕ
 noKind = length layouts + 1
 
 -- what a read at a place, and a tick's record in so many places, are refused
-abbrev read : List ℕ → ℕ → ℕ
+abbrev pub read : List ℕ → ℕ → ℕ
 read trace at = readNumber (readAt trace at)
 
 abbrev written : ℕ → ℕ
@@ -168,7 +169,7 @@ pub record Seen : Type 0 where
   pub got : List ℕ
   pub want : List ℕ
 
-abbrev see : List ℕ → List ℕ → Seen
+abbrev pub see : List ℕ → List ℕ → Seen
 see got want = record { got = got; want = want }
 
 abbrev pub sameNumbers : List ℕ → List ℕ → Bool
@@ -193,20 +194,20 @@ costNumbers [] = []
 costNumbers (c ∷ cs) = c .0 ∷ costNumbers cs
 
 -- head and length, the ids, the costs
-abbrev queueNumbers : Queue → List ℕ
+abbrev pub queueNumbers : Queue → List ℕ
 queueNumbers q = q .head ∷ q .len ∷ q .ids ++ costNumbers (q .costs)
 
 -- share, row, and the queue's head and length
-abbrev leafNumbers : Controller → ℕ → List ℕ
+abbrev pub leafNumbers : Controller → ℕ → List ℕ
 leafNumbers c n = shareAt c n ∷ rowNumbers (rowAt c n) ++ (queueAt c n .head ∷ queueAt c n .len ∷ [])
 
 -- time, virtual time, E, vrate; leaves, active, donors
-abbrev topNumbers : Controller → List ℕ
+abbrev pub topNumbers : Controller → List ℕ
 topNumbers c =
     c .clock .time ∷ c .clock .vtime .0 ∷ c .clock .since .0 ∷ c .clock .vrate ∷ c .leaves ∷ c .active ∷ c .donors ∷ []
 
 -- of a state with three leaves
-abbrev bookNumbers : Controller → List ℕ
+abbrev pub bookNumbers : Controller → List ℕ
 bookNumbers c = topNumbers c ++ leafNumbers c 1 ++ leafNumbers c 2 ++ leafNumbers c 3
 
 -- three equal leaves, of which 1 takes, 2 gives and 3 is not active; a number of the books differs from those beside it
@@ -225,13 +226,13 @@ state6 row₁ queue₁ =
     (withSharing 6 4 (0 ∷ 873741824 ∷ 200000000 ∷ 0 ∷ []) (withClock (clockAt 1000 70000 50000 200) (fresh tree6 M 0)))
 
 -- leaf 1 has saved; waits for three, over the ring's end; owes; owes and waits
-saved6 : Controller
+unfoldable pub saved6 : Controller
 saved6 = state6 (row 400000 0 7 40 true false) (ring 1 7 0)
 
 waits6 : Controller
 waits6 = state6 (row 30000 0 7 40 true false) (ring 1 7 3)
 
-owes6 : Controller
+unfoldable pub owes6 : Controller
 owes6 = state6 (row 0 50000 7 40 true false) (ring 1 7 1)
 
 both6 : Controller
@@ -261,16 +262,16 @@ abbrev then : Bio → Controller → List ℕ
 then b c = bookNumbers (submitted b c .state)
 
 -- leaves 2 and 3 of `state6`, and 1 in `saved6`, where a call leaves them alone
-abbrev leaf1 : List ℕ
+abbrev pub leaf1 : List ℕ
 leaf1 = 873741824 ∷ 400000 ∷ 0 ∷ 7 ∷ 40 ∷ 1 ∷ 0 ∷ 7 ∷ 0 ∷ []
 
-abbrev leaf2 : List ℕ
+abbrev pub leaf2 : List ℕ
 leaf2 = 200000000 ∷ 900000 ∷ 0 ∷ 13 ∷ 16 ∷ 0 ∷ 1 ∷ 3 ∷ 0 ∷ []
 
-abbrev leaf3 : List ℕ
+abbrev pub leaf3 : List ℕ
 leaf3 = 0 ∷ 0 ∷ 0 ∷ 19 ∷ 24 ∷ 1 ∷ 0 ∷ 0 ∷ 0 ∷ []
 
-abbrev top : ℕ → ℕ → List ℕ
+abbrev pub top : ℕ → ℕ → List ℕ
 top active donors = 1000 ∷ 70000 ∷ 50000 ∷ 200 ∷ 14 ∷ active ∷ donors ∷ []
 
 pub books : List Seen
@@ -375,7 +376,7 @@ unfolding computed devices
 devices-hold = refl
 
 -- ---- the ledger of the same calls: accepted, issued, released, repaid and forgiven of a leaf, and what is generated
-abbrev heads : Call → Controller → ℕ → List ℕ
+abbrev pub heads : Call → Controller → ℕ → List ℕ
 heads k c n = accepted k c n ∷ issued k c n ∷ released k c n ∷ repaid k c n ∷ forgiven k c n ∷ generated k c ∷ []
 
 pub ledger : List Seen
@@ -394,7 +395,7 @@ ledger =
     ∷ see (heads (Call.tick 11000 (9 ∷ [])) waits6 1) (replicate 6 0)
     -- a quiet plan forgives 3 of 7, and vrate counts nothing
     ∷ see (heads Call.plan small6 1) (0 ∷ 0 ∷ 0 ∷ 0 ∷ 3 ∷ 0 ∷ [])
-    ∷ see (heads (Call.set (toVrate 300)) small6 1) (replicate 6 0)
+    ∷ see (heads (Call.set (SetVrate 300)) small6 1) (replicate 6 0)
     -- what waits, what is owed, what all are charged, and what they have saved
     ∷ see (waiting waits6 1 ∷ owed owes6 1 ∷ []) (60011 ∷ 50000 ∷ [])
     ∷ see (charged (Call.tick 11000 (9 ∷ [])) both6 ∷ saved saved6 ∷ []) (15000 ∷ (400000 * 873741824 + 900000 * 200000000) ∷ [])
@@ -405,9 +406,9 @@ unfolding computed ledger saved6 waits6 owes6 both6 small6 accepted issued relea
 ledger-holds = refl
 
 -- ---- the replay, by its parts
--- which of the kinds 1 to 7 are in a phase
+-- which of the kinds are in a phase
 abbrev kindsIn : Phase → List ℕ
-kindsIn phase = tableFrom (λ kind. bit (inPhase phase kind)) 1 7
+kindsIn phase = tableFrom (λ kind. bit (inPhase phase kind)) 1 8
 
 abbrev phaseNumber : Phase → ℕ
 phaseNumber Setup = 0
@@ -431,10 +432,10 @@ treeNumbers t = t .count ∷ take 3 (t .parents) ++ take 3 (t .weights)
 
 pub parts : List Seen
 parts =
-    see (kindsIn Setup) (1 ∷ 1 ∷ 0 ∷ 0 ∷ 0 ∷ 0 ∷ 0 ∷ [])
-    ∷ see (kindsIn Priced) (1 ∷ 0 ∷ 1 ∷ 0 ∷ 0 ∷ 0 ∷ 0 ∷ [])
-    ∷ see (kindsIn Running) (0 ∷ 0 ∷ 0 ∷ 1 ∷ 1 ∷ 1 ∷ 1 ∷ [])
-    ∷ see (kindsIn Stopped) (replicate 7 0)
+    see (kindsIn Setup) (1 ∷ 1 ∷ 0 ∷ 0 ∷ 0 ∷ 0 ∷ 0 ∷ 0 ∷ [])
+    ∷ see (kindsIn Priced) (1 ∷ 0 ∷ 1 ∷ 0 ∷ 0 ∷ 0 ∷ 0 ∷ 0 ∷ [])
+    ∷ see (kindsIn Running) (0 ∷ 0 ∷ 0 ∷ 1 ∷ 1 ∷ 1 ∷ 1 ∷ 1 ∷ [])
+    ∷ see (kindsIn Stopped) (replicate 8 0)
     -- the largest number has 20 digits
     ∷ see (digits (2 ^ 64 - 1)) (49 ∷ 56 ∷ 52 ∷ 52 ∷ 54 ∷ 55 ∷ 52 ∷ 52 ∷ 48 ∷ 55 ∷ 51 ∷ 55 ∷ 48 ∷ 57 ∷ 53 ∷ 53 ∷ 49 ∷ 54 ∷ 49 ∷ 53 ∷ [])
     -- nodes are numbered from 1, each with its parent and its weight
@@ -451,12 +452,14 @@ parts =
     ∷ phaseNumber (after (Start 0) Priced .replay .phase)
     ∷ phaseNumber (after Plan Running .replay .phase)
     ∷ phaseNumber (after (Vrate 0) Running .replay .phase)
+    ∷ phaseNumber (after (Weight 0 1) Running .replay .phase)
+    ∷ phaseNumber (after (Weight 1 1) Priced .replay .phase)
     ∷ phaseNumber (after (Tick 0) Setup .replay .phase)
     ∷ phaseNumber (stepped (readAt (0 ∷ []) 0) (at Running) .replay .phase)
     ∷ phaseNumber (stepped (readAt (5 ∷ []) 0) (at Running) .replay .phase)
     ∷ phaseNumber (stepped (readAt [] 0) (at Running) .replay .phase)
     ∷ []
-    ) (0 ∷ 1 ∷ 3 ∷ 1 ∷ 3 ∷ 2 ∷ 3 ∷ 2 ∷ 2 ∷ 3 ∷ 3 ∷ 3 ∷ 2 ∷ [])
+    ) (0 ∷ 1 ∷ 3 ∷ 1 ∷ 3 ∷ 2 ∷ 3 ∷ 2 ∷ 2 ∷ 2 ∷ 3 ∷ 3 ∷ 3 ∷ 3 ∷ 2 ∷ [])
     ∷ see (after (ModelOf (ratesM 50000)) Setup .replay .rates .rseqiops ∷ after (Node 0 5) Setup .replay .rates .rseqiops ∷ []) (50000 ∷ 1 ∷ [])
     -- a bio that is refused 7 prints its number, and the replay goes on
     ∷ see (refused7 .bytes ++ (phaseNumber (refused7 .replay .phase) ∷ [])) (82 ∷ 32 ∷ 55 ∷ 10 ∷ 2 ∷ [])
@@ -476,7 +479,7 @@ parts-hold = refl
 -- are donated, a plan with no time since the last, and a kind that nobody knows, behind which nothing is read. Leaf 1, alone, waits for 100,000 and 20,000. Then both
 -- hold a quarter and three quarters; at vrate 200 leaf 2 repays 60,000, 15,000 and 25,000, and the plan, at E 320,000 with usages
 -- 160,000 and 100,000, leaves it five quarters of 100,000 / 320,000
-abbrev asked : ℕ → ℕ → ℕ → ℕ → Record
+abbrev pub asked : ℕ → ℕ → ℕ → ℕ → Record
 asked node flags id sector = BioOf (record { node = node; flags = flags; id = id; sector = sector; bytes = 4096 })
 
 pub everyTrace : List ℕ

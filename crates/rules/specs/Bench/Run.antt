@@ -9,18 +9,20 @@ use Rattle.rules.specs.Units.{virt}
 use Rattle.rules.specs.Budget.{rowAt, shareAt, withClock, withTimes}
 use Rattle.rules.specs.Tick.{tick}
 use Rattle.rules.specs.Plan.{plan}
-use Rattle.rules.specs.Entries.{started, submitted, ticked, lentOf, planned, toVrate, setBy}
+use Rattle.rules.specs.Entries.{started, submitted, ticked, lentOf, planned, setBy}
 use Rattle.rules.specs.Ledger.{Call, after}
 use Rattle.rules.specs.declared.cost.Rates.{Rates}
 use Rattle.rules.specs.declared.tree.Tree.{Tree}
+use Rattle.rules.specs.declared.tree.Fault.the-variants.{Weight}
 use Rattle.rules.specs.declared.budget.Controller.{Controller}
+use Rattle.rules.specs.declared.replay.Setting.the-variants.{Vrate as SetVrate, Weight as SetWeight}
 use Rattle.rules.specs.declared.refusals.Answer.{Answer}
 use Rattle.rules.specs.declared.refusals.Answer.the-variants.{Issued, Waits, OnDebt, Refused as Declined}
 use Rattle.rules.specs.declared.refusals.Count.{Count}
 use Rattle.rules.specs.declared.refusals.Count.the-variants.{Released, Refused as Unticked}
 use Rattle.rules.specs.declared.refusals.Verdict.{Verdict}
 use Rattle.rules.specs.declared.refusals.Verdict.the-variants.{Accepted, Refused}
-use Rattle.rules.specs.declared.refusals.Refusal.the-variants.{NoLeaf, BadBio, TooDear, QueueFull, DebtFull, TimeBack, TimeFar, ClockFull, PlanDue, FewPlaces, NothingPassed, BadVrate}
+use Rattle.rules.specs.declared.refusals.Refusal.the-variants.{NoLeaf, BadBio, TooDear, QueueFull, DebtFull, TimeBack, TimeFar, ClockFull, PlanDue, FewPlaces, NothingPassed, BadVrate, BadTree, NotBelowRoot}
 use Rattle.rules.specs.Bench.{computed}
 
 -- ---- each call with what it answers. Every state of the run is sound (`bench-run-is-sound` in Demand3/Sentences)
@@ -67,7 +69,10 @@ abbrev plans : Verdict → Move
 plans answer = record { call = Call.plan; want = toOther answer }
 
 abbrev rate : ℕ → Verdict → Move
-rate v answer = record { call = Call.set (toVrate v); want = toOther answer }
+rate v answer = record { call = Call.set (SetVrate v); want = toOther answer }
+
+abbrev weigh : ℕ → ℕ → Verdict → Move
+weigh n w answer = record { call = Call.set (SetWeight n w); want = toOther answer }
 
 -- the tree of B5 in the arrays of the code, and M with the slowest writes, a page of which costs a second
 abbrev pub runTree : Tree
@@ -149,6 +154,28 @@ pub run-reaches :
     × (seen (upTo 585) ≡ 2 ∷ 0 ∷ 1073741824 ∷ 0 ∷ 548966445561 ∷ 0 ∷ 0 ∷ 0 ∷ [])
 unfolding computed moves begun
 run-reaches = (refl, refl, refl, refl)
+
+-- ---- weights, where the donation of the first plan stands: refused ones leave it, and an accepted one ends it
+pub weights : List Move
+weights =
+    weigh 0 100 (Refused NotBelowRoot)
+    ∷ weigh 3 0 (Refused NotBelowRoot)
+    ∷ weigh 2 0 (Refused (BadTree (Weight 2)))
+    ∷ weigh 2 100 Accepted
+    ∷ []
+
+abbrev pub weightsUpTo : ℕ → Controller
+weightsUpTo k = left (take k weights) (upTo 26)
+
+pub weight-answers : replies weights (upTo 26) ≡ wants weights
+unfolding computed moves begun weights
+weight-answers = refl
+
+pub weights-reach :
+    (seen (weightsUpTo 3) ≡ 6 ∷ 4 ∷ 751619277 ∷ 0 ∷ 0 ∷ 322122547 ∷ 239999 ∷ 0 ∷ [])
+    × (seen (weightsUpTo 4) ≡ 6 ∷ 0 ∷ 536870912 ∷ 0 ∷ 0 ∷ 536870912 ∷ 143999 ∷ 0 ∷ [])
+unfolding computed moves begun weights
+weights-reach = (refl, refl)
 
 -- 11: a state at another virtual time, which the ticks of no list of a bearable length bring about
 abbrev pub aged : ℕ → Controller → Controller

@@ -34,7 +34,7 @@ use Rattle.rules.specs.Laws.Ticks.{active-turn, active-repays, idle-repa
 use Rattle.rules.specs.Laws.Plans.{half-of-a-debt-is-forgiven-when-quiet, nothing-is-forgiven-when-busy}
 use Rattle.rules.specs.Laws.Submits.{costIn, cost-here, cost-elsewhere, none-issued as issues-none, submit-waiting, submit-owed}
 use Rattle.rules.specs.Laws.Refused.{refusal-4-exactly-when, submit-refuses-exactly-when, tick-refuses-exactly-when, plan-refuses, a-refused-bio-changes-nothing, a-refused-tick-changes-nothing, a-refused-plan-changes-nothing}
-use Rattle.rules.specs.Laws.Settings.{sets-alone, a-refused-setting-changes-nothing}
+use Rattle.rules.specs.Laws.Settings.{set-keeps-virtual-time, a-refused-setting-changes-nothing}
 use Rattle.rules.specs.declared.units.Virt.{Virt}
 use Rattle.rules.specs.declared.cost.Bio.{Bio}
 use Rattle.rules.specs.declared.budget.Row.{Row}
@@ -252,52 +252,65 @@ no-node-outside-the-sum-is-charged k {c} sound n (inr l) =
     (is-false (isLeaf (c .tree) n) (λ e. omega (arith, leaf-last (c .tree) n e, last-most (sound .tree)))) k
 
 -- ---- generated: the growth of virtual time
-entering-keeps-the-clock : (n : ℕ) (c : Controller) → entered n c .clock ≡ c .clock
+-- the clock and the tree stay where a call has to do with leaves alone
+pub record SameClockAndTree (c d : Controller) : Type 0 where
+  pub clock : d .clock ≡ c .clock
+  pub tree : d .tree ≡ c .tree
+
+entering-keeps-both : (n : ℕ) (c : Controller) → SameClockAndTree c (entered n c)
 unfolding entered activated rebased reshared
-entering-keeps-the-clock n c = go (has (c .active) n)
+entering-keeps-both n c = go (has (c .active) n)
   where
-    go : (t : Bool) → cond t c (activated n c) .clock ≡ c .clock
-    go true = refl
-    go false = refl
+    go : (t : Bool) → SameClockAndTree c (cond t c (activated n c))
+    go true = record { clock = refl; tree = refl }
+    go false = record { clock = refl; tree = refl }
 
-settling-keeps-the-clock : (a : Answer) (b : Bio) (c : Controller) → settled a b c .clock ≡ c .clock
+settling-keeps-both : (a : Answer) (b : Bio) (c : Controller) → SameClockAndTree c (settled a b c)
 unfolding settled applied rebased reshared
-settling-keeps-the-clock a b c = go (endsDonation a && has (c .donors) (b .node))
+settling-keeps-both a b c = go (endsDonation a && has (c .donors) (b .node))
   where
-    go : (t : Bool) → cond t (rebased (c .active) (applied a b c)) (applied a b c) .clock ≡ c .clock
-    go true = refl
-    go false = refl
+    go : (t : Bool) → SameClockAndTree c (cond t (rebased (c .active) (applied a b c)) (applied a b c))
+    go true = record { clock = refl; tree = refl }
+    go false = record { clock = refl; tree = refl }
 
-submitting-keeps-the-clock : (b : Bio) (c : Controller) (v : Verdict) → submittedBy v b c .state .clock ≡ c .clock
+pub submitting-keeps-both : (b : Bio) (c : Controller) (v : Verdict) → SameClockAndTree c (submittedBy v b c .state)
 unfolding submittedBy submission
-submitting-keeps-the-clock b c Accepted =
-    settling-keeps-the-clock (wouldBe c b) b (entered (b .node) c) ∙ entering-keeps-the-clock (b .node) c
-submitting-keeps-the-clock b c (Refused x) = refl
+submitting-keeps-both b c Accepted =
+    let s = settling-keeps-both (wouldBe c b) b (entered (b .node) c) in
+    let e = entering-keeps-both (b .node) c in
+    record { clock = s .clock ∙ e .clock; tree = s .tree ∙ e .tree }
+submitting-keeps-both b c (Refused x) = record { clock = refl; tree = refl }
 
-sharing-keeps-the-clock : (active donors : ℕ) (bases targets : List ℕ) (c : Controller) → shared active donors bases targets c .clock ≡ c .clock
+sharing-keeps-both : (active donors : ℕ) (bases targets : List ℕ) (c : Controller) → SameClockAndTree c (shared active donors bases targets c)
 unfolding shared reshared
-sharing-keeps-the-clock active donors bases targets c = go (isDonation active donors)
+sharing-keeps-both active donors bases targets c = go (isDonation active donors)
   where
-    go : (t : Bool) → cond t (reshared active donors (donated active donors bases targets) c) (reshared active noNode bases c) .clock ≡ c .clock
-    go true = refl
-    go false = refl
+    go : (t : Bool) → SameClockAndTree c (cond t (reshared active donors (donated active donors bases targets) c) (reshared active noNode bases c))
+    go true = record { clock = refl; tree = refl }
+    go false = record { clock = refl; tree = refl }
 
+-- of a plan E starts at 0
 planning-keeps-virtual-time : (c : Controller) (v : Verdict) → plannedBy v c .state .clock .vtime .0 ≡ c .clock .vtime .0
 unfolding plannedBy planning closed
-planning-keeps-virtual-time c Accepted = ap (λ (k : Clock). k .vtime .0) (sharing-keeps-the-clock _ _ _ _ (closed _ _ c))
+planning-keeps-virtual-time c Accepted = ap (λ (k : Clock). k .vtime .0) (sharing-keeps-both _ _ _ _ (closed _ _ c) .clock)
 planning-keeps-virtual-time c (Refused x) = refl
+
+pub planning-keeps-the-tree : (c : Controller) (v : Verdict) → plannedBy v c .state .tree ≡ c .tree
+unfolding plannedBy planning closed
+planning-keeps-the-tree c Accepted = sharing-keeps-both _ _ _ _ (closed _ _ c) .tree
+planning-keeps-the-tree c (Refused x) = refl
 
 pub generated-is-the-growth-of-virtual-time : (k : Call) (c : Controller) → generated k c + c .clock .vtime .0 ≡ after k c .clock .vtime .0
 unfolding generated submitted ticked tickedBy ticking advanced planned
 generated-is-the-growth-of-virtual-time (Call.submit b) c =
-    omega (arith, ap (λ (k : Clock). k .vtime .0) (submitting-keeps-the-clock b c (firstOf (submitChecks b c))))
+    omega (arith, ap (λ (k : Clock). k .vtime .0) (submitting-keeps-both b c (firstOf (submitChecks b c)) .clock))
 generated-is-the-growth-of-virtual-time (Call.tick time lent) c = go (firstOf (tickChecks time (length lent) c))
   where
     go : (v : Verdict) → ifAccepted v (growth (c .clock) time .0) + c .clock .vtime .0 ≡ tickedBy v time c .state .clock .vtime .0
     go Accepted = omega arith
     go (Refused x) = omega arith
 generated-is-the-growth-of-virtual-time Call.plan c = omega (arith, planning-keeps-virtual-time c (firstOf (planChecks c)))
-generated-is-the-growth-of-virtual-time (Call.set x) c = omega (arith, sets-alone x c .vtime)
+generated-is-the-growth-of-virtual-time (Call.set x) c = omega (arith, set-keeps-virtual-time x c)
 
 -- ---- a refused call: nothing in any head, and the state stays; the buffer too, by `a-refused-tick-changes-nothing`
 -- the answer of the call is this refusal

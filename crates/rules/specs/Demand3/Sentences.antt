@@ -15,7 +15,7 @@ use Rattle.rules.specs.Tree.{baseShare, baseShares}
 use Rattle.rules.specs.Budget.{shareAt}
 use Rattle.rules.specs.Entries.{started}
 use Rattle.rules.specs.Invariant.{Sound}
-use Rattle.rules.specs.Bench.Run.{Move, left, runTree, runRates, begun, moves, upTo, aged}
+use Rattle.rules.specs.Bench.Run.{Move, left, runTree, runRates, begun, moves, upTo, weights, weightsUpTo, aged}
 use Rattle.rules.specs.Ledger.{Call, after, waiting, owed, accepted, issued, released, repaid, forgiven, generated, charged, saved}
 use Rattle.rules.specs.Demand3.Steps.{call-keeps, call-flow, call-books}
 use Rattle.rules.specs.Demand3.Heads.{generated-is-the-growth-of-virtual-time}
@@ -105,7 +105,8 @@ module _ (tree : Tree) (rates : Rates) (time : ℕ) (ks : List Call) where
   no-donation-restores-base c e = rw e (reached-is-sound ks (start-gives tree rates time) .no-donation)
 
 -- ---- these promises are not empty: the bench's run begins with a start and has answers of every kind, refusals 4 to 15
--- among them (`run-answers`, `run-reaches` and `limit-answers` in Bench/Run), and each of its states is sound
+-- among them (`run-answers`, `run-reaches` and `limit-answers` in Bench/Run), and each of its states is sound; so is each that
+-- weights bring about, accepted and refused, where a donation of that run stands (`weight-answers`, `weights-reach`)
 left-is-sound : (ms : List Move) {c : Controller} → Sound c → Sound (left ms c)
 left-is-sound [] sound = sound
 left-is-sound (m ∷ ms) sound = left-is-sound ms (call-keeps (m .call) sound)
@@ -113,6 +114,9 @@ left-is-sound (m ∷ ms) sound = left-is-sound ms (call-keeps (m .call) sound)
 pub bench-run-is-sound : (k : ℕ) → Sound (upTo k)
 unfolding begun
 bench-run-is-sound k = left-is-sound (take k moves) (start-gives runTree runRates 0)
+
+pub bench-weights-are-sound : (k : ℕ) → Sound (weightsUpTo k)
+bench-weights-are-sound k = left-is-sound (take k weights) (bench-run-is-sound 26)
 
 -- so is one at any virtual time up to the limit
 pub aged-is-sound : {c : Controller} → Sound c → (vtime : ℕ) → vtime ≤ vtimeMost → Sound (aged vtime c)

@@ -25,7 +25,7 @@ pub call-flow : (k : Call) {c : Controller} → Sound c → charged k c * WHOLE 
 call-flow (submit b) sound = submit-flow sound b
 call-flow (tick time lent) sound = tick-flow sound time lent
 call-flow plan sound = plan-flow sound
-call-flow (set x) {c} sound = set-flow x c
+call-flow (set x) sound = set-flow x sound
 
 pub call-books : (k : Call) {c : Controller} → Sound c → (n : ℕ)
     → waiting (after k c) n + owed (after k c) n + issued k c n + released k c n + repaid k c n + forgiven k c n
@@ -34,4 +34,4 @@ unfolding issued released repaid forgiven accepted
 call-books (submit b) sound n = omega (arith, submit-books sound b n)
 call-books (tick time lent) sound n = omega (arith, tick-books sound time lent n)
 call-books plan sound n = omega (arith, plan-books sound n)
-call-books (set x) {c} sound n = omega (arith, set-books x c n)
+call-books (set x) sound n = omega (arith, set-books x sound n)

@@ -7,7 +7,7 @@ use mathlib.Core.List.{List, [], _∷_, _++_}
 use Prim.Native.Nat.{ℕ, zero, suc, _≤_}
 use Rattle.rules.specs.Tree.{countInRange, treeFault}
 use Rattle.rules.specs.Refusals.{firstOf, treeChecks, nodeChecks, rateChecks, startChecks}
-use Rattle.rules.specs.Entries.{noTree, slowest, started, startedBy, toVrate}
+use Rattle.rules.specs.Entries.{noTree, slowest, started, startedBy}
 use Rattle.rules.specs.Trace.{kindOf, readAt}
 use Rattle.rules.specs.Replay.{Step, silent, stopsAt, Called, bioCall, tickCall, planCall, setCall, goesOn, inPhase, isStopped, allRoom, beginning, grown, nodeStep, modelStep, startStep, recordStep, readStep, nextPlace, stepped}
 use Rattle.rules.specs.Chunks.{callOf, isCall}
@@ -22,12 +22,13 @@ use Rattle.rules.specs.declared.refusals.Refusal.the-variants.{WrongPhas
 use Rattle.rules.specs.declared.refusals.Verdict.{Verdict}
 use Rattle.rules.specs.declared.refusals.Verdict.the-variants.{Accepted, Refused}
 use Rattle.rules.specs.declared.trace.Record.{Record}
-use Rattle.rules.specs.declared.trace.Record.the-variants.{Node, Model as ModelOf, Start, Bio as BioOf, Tick, Plan, Vrate}
+use Rattle.rules.specs.declared.trace.Record.the-variants.{Node, Model as ModelOf, Start, Bio as BioOf, Tick, Plan, Vrate, Weight}
 use Rattle.rules.specs.declared.trace.Read.{Read}
 use Rattle.rules.specs.declared.trace.Read.the-variants.{Found, End, Refused as Unread}
 use Rattle.rules.specs.declared.replay.Phase.{Phase}
 use Rattle.rules.specs.declared.replay.Phase.the-variants.{Priced, Running, Stopped}
 use Rattle.rules.specs.declared.replay.Replay.{Replay}
+use Rattle.rules.specs.declared.replay.Setting.the-variants.{Vrate as SetVrate, Weight as SetWeight}
 
 -- ---- the calls that a trace holds: of the record that is read at a place, and from a place on, at most so many
 unfoldable pub callsIn : Read → List Call
@@ -37,7 +38,8 @@ callsIn (Found (Start time) next) = []
 callsIn (Found (BioOf b) next) = Call.submit b ∷ []
 callsIn (Found (Tick time) next) = Call.tick time allRoom ∷ []
 callsIn (Found Plan next) = Call.plan ∷ []
-callsIn (Found (Vrate v) next) = Call.set (toVrate v) ∷ []
+callsIn (Found (Vrate v) next) = Call.set (SetVrate v) ∷ []
+callsIn (Found (Weight n w) next) = Call.set (SetWeight n w) ∷ []
 callsIn End = []
 callsIn (Unread x) = []
 
@@ -101,7 +103,8 @@ module _ (trace : List ℕ) where
     goes-on (Found (BioOf b) next) h = goes (bioCall b (s .state)) next _ (carried (BioOf b) next refl)
     goes-on (Found (Tick time) next) h = goes (tickCall time (s .state)) next _ (carried (Tick time) next refl)
     goes-on (Found Plan next) h = goes (planCall (s .state)) next _ (carried Plan next refl)
-    goes-on (Found (Vrate v) next) h = goes (setCall (toVrate v) (s .state)) next _ (carried (Vrate v) next refl)
+    goes-on (Found (Vrate v) next) h = goes (setCall (SetVrate v) (s .state)) next _ (carried (Vrate v) next refl)
+    goes-on (Found (Weight k w) next) h = goes (setCall (SetWeight k w) (s .state)) next _ (carried (Weight k w) next refl)
     goes-on End h =
         ap (λ (t : Replay). replayAfter n trace place t .state) (the-end-stays s e) ∙ on place s e
         ∙ ap (λ (ks : List Call). run ks (s .state)) (none-at-the-end n place h)
@@ -159,7 +162,8 @@ record-reaches (Start time) s h = by-start (started (s .tree) (s .rates) time .a
 record-reaches (BioOf b) s h = one-more (Call.submit b) h
 record-reaches (Tick time) s h = one-more (Call.tick time allRoom) h
 record-reaches Plan s h = one-more Call.plan h
-record-reaches (Vrate v) s h = one-more (Call.set (toVrate v)) h
+record-reaches (Vrate v) s h = one-more (Call.set (SetVrate v)) h
+record-reaches (Weight n w) s h = one-more (Call.set (SetWeight n w)) h
 
 step-reaches : (read : Read) (s : Replay) → Reached (s .state) → Reached (stepped read s .replay .state)
 unfolding stepped readStep

@@ -16,7 +16,7 @@ use Rattle.rules.specs.Refusals.{number}
 use Rattle.rules.specs.Replay.{digitsIn, digits, line, refusalLine, releaseLines, shareLines, leafLine, shareLinesTo, shareLinesOf}
 use Rattle.rules.specs.declared.budget.Controller.{Controller}
 use Rattle.rules.specs.declared.refusals.Refusal.{Refusal}
-use Rattle.rules.specs.declared.refusals.Refusal.the-variants.{BadTree, ThinTree, BadRate, NoLeaf, BadBio, TooDear, QueueFull, DebtFull, TimeBack, TimeFar, ClockFull, PlanDue, FewPlaces, NothingPassed, BadVrate, UnknownKind, CutShort, WrongPhase, ShortBuffer}
+use Rattle.rules.specs.declared.refusals.Refusal.the-variants.{BadTree, ThinTree, BadRate, NoLeaf, BadBio, TooDear, QueueFull, DebtFull, TimeBack, TimeFar, ClockFull, PlanDue, FewPlaces, NothingPassed, BadVrate, UnknownKind, CutShort, WrongPhase, NotBelowRoot, ShortBuffer}
 
 -- ---- digits
 digits-in-none : (n : ℕ) → digitsIn 0 n ≡ []
@@ -110,6 +110,7 @@ number-most BadVrate = omega arith
 number-most UnknownKind = omega arith
 number-most CutShort = omega arith
 number-most WrongPhase = omega arith
+number-most NotBelowRoot = omega arith
 number-most ShortBuffer = omega arith
 
 pub refusal-line-most : (x : Refusal) → length (refusalLine x) ≤ 5

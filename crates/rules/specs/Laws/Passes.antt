@@ -6,8 +6,8 @@ use Prim.Native.Nat.{ℕ, _≤_}
 use borrow.Author.Tests.{ltb-false, not-false}
 use Rattle.rules.specs.Numbers.{vrateLeast, vrateMost}
 use Rattle.rules.specs.Cost.{ratesInRange}
-use Rattle.rules.specs.Tree.{treeFault, isThin}
-use Rattle.rules.specs.Refusals.{firstOf, treeChecks, rateChecks, startChecks, tickChecks, vrateChecks}
+use Rattle.rules.specs.Tree.{weightInRange, treeFault, isThin, isBelowRoot, withWeight}
+use Rattle.rules.specs.Refusals.{firstOf, treeChecks, rateChecks, startChecks, tickChecks, vrateChecks, weightChecks}
 use Rattle.rules.specs.Entries.{started, startedBy}
 use Rattle.rules.specs.Invariant.{TickPasses}
 use Rattle.rules.specs.Laws.TreeVerdicts.{sound-when}
@@ -46,6 +46,19 @@ tick-passes time places c e =
 pub vrate-passes : (v : ℕ) → firstOf (vrateChecks v) ≡ Accepted → (vrateLeast ≤ v) × (v ≤ vrateMost)
 unfolding vrateChecks
 vrate-passes v e = between vrateLeast v vrateMost .0 (not-false _ (check-passed _ _ _ e .0))
+
+-- ---- a weight
+pub record WeightPasses (n w : ℕ) (t : Tree) : Type 0 where
+  pub node : isBelowRoot t n ≡ true
+  pub range : weightInRange w ≡ true
+  pub thick : isThin (withWeight n w t) ≡ false
+
+pub weight-passes : (n w : ℕ) (t : Tree) → firstOf (weightChecks n w t) ≡ Accepted → WeightPasses n w t
+unfolding weightChecks
+weight-passes n w t e =
+    let a = check-passed _ _ _ e in
+    let b = check-passed _ _ _ (a .1) in
+    record { node = not-false _ (a .0); range = not-false _ (b .0); thick = check-passed _ _ _ (b .1) .0 }
 
 -- ---- start
 pub record StartPasses (t : Tree) (r : Rates) : Type 0 where

@@ -1,4 +1,4 @@
--- The refusals that each entry can give, by number and in the table's order, and what each entry answers on paper: the number
+-- The refusals that each entry can give, by number and in the order of its checks, and what each entry answers on paper: the number
 -- of the first check that holds, 0 where none does, and the values that it then gives.
 -- Assumes nothing.
 use mathlib.Core.Path.{_≡_, refl, ap, _∙_}
@@ -13,8 +13,8 @@ use Rattle.rules.specs.Cost.{priced, costOf}
 use Rattle.rules.specs.Budget.{wouldBe, submission}
 use Rattle.rules.specs.Tick.{growth, releases}
 use Rattle.rules.specs.Trace.{layout, recordBytes, writing, fieldsFrom, behind, readAt}
-use Rattle.rules.specs.Refusals.{_⇒_, paper, paperOf, due, unless, numbersOf, firstOf, verdictNumber, answerValues, modelValues, answerPaper, countPaper, pricingPaper, costingPaper, readPaper, writePaper, treeChecks, nodeChecks, rateChecks, startChecks, costChecks, roomChecks, submitChecks, tickChecks, planChecks, vrateChecks, readChecks, valuesAt, writeChecks}
-use Rattle.rules.specs.Entries.{pricingBy, pricing, treeVerdict, costingBy, costing, started, submittedBy, submitted, tickedBy, ticked, plannedBy, planned, vratedBy, vrated}
+use Rattle.rules.specs.Refusals.{_⇒_, paper, paperOf, due, unless, numbersOf, firstOf, verdictNumber, answerValues, modelValues, answerPaper, countPaper, pricingPaper, costingPaper, readPaper, writePaper, treeChecks, nodeChecks, rateChecks, startChecks, costChecks, roomChecks, submitChecks, tickChecks, planChecks, vrateChecks, weightChecks, readChecks, valuesAt, writeChecks}
+use Rattle.rules.specs.Entries.{pricingBy, pricing, treeVerdict, costingBy, costing, started, submittedBy, submitted, tickedBy, ticked, plannedBy, planned, vratedBy, vrated, weightedBy, weighted}
 use Rattle.rules.specs.Laws.Passes.{start-answers}
 use Rattle.rules.specs.Laws.Answers.{answer-is-no-refusal}
 use Rattle.rules.specs.Laws.Trace.{endAt, Reading, each-answer, kind-of-record, fields-of-record}
@@ -64,6 +64,10 @@ plan-refusals c = refl
 pub vrate-refusals : (v : ℕ) → numbersOf (vrateChecks v) ≡ 15 ∷ []
 unfolding vrateChecks
 vrate-refusals v = refl
+
+pub weight-refusals : (n w : ℕ) (t : Tree) → numbersOf (weightChecks n w t) ≡ 19 ∷ 1 ∷ 2 ∷ []
+unfolding weightChecks
+weight-refusals n w t = refl
 
 pub read-refusals : (trace : List ℕ) (at : ℕ) → numbersOf (readChecks trace at) ≡ 16 ∷ 17 ∷ []
 unfolding readChecks
@@ -141,6 +145,14 @@ unfolding vrated vratedBy
 vrate-on-paper v c e = ap (λ (o : Outcome). verdictNumber (o .answer)) e ∙ go (firstOf (vrateChecks v))
   where
     go : (t : Verdict) → verdictNumber (vratedBy t v c .answer) ≡ verdictNumber t
+    go Accepted = refl
+    go (Refused x) = refl
+
+pub weight-on-paper : (n w : ℕ) (c : Controller) {r : Outcome} → r ≡ weighted n w c → verdictNumber (r .answer) ≡ due (weightChecks n w (c .tree))
+unfolding weighted weightedBy
+weight-on-paper n w c e = ap (λ (o : Outcome). verdictNumber (o .answer)) e ∙ go (firstOf (weightChecks n w (c .tree)))
+  where
+    go : (t : Verdict) → verdictNumber (weightedBy t n w c .answer) ≡ verdictNumber t
     go Accepted = refl
     go (Refused x) = refl
 

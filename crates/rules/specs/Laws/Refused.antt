@@ -9,13 +9,13 @@ use native.Mathlib.Omega.{arith}
 use lib.Dec.{eqb, leb, ltb}
 use lib.ListN.{length}
 use borrow.Author.Tests.{ltb-true, ltb-false, lt-ltb, le-ltb, eqb-true, eq-eqb, not-true, not-false}
-use Rattle.rules.specs.Numbers.{queueRoom, costMost, debtMost, elapsedMost, vtimeMost, sinceMost, vrateLeast, vrateMost}
+use Rattle.rules.specs.Numbers.{queueRoom, costMost, debtMost, elapsedMost, vtimeMost, sinceMost, vrateLeast, vrateMost, weightLeast, weightMost}
 use Rattle.rules.specs.Cost.{ratesInRange, bioInRange}
-use Rattle.rules.specs.Tree.{isLeaf, treeFault, isThin}
+use Rattle.rules.specs.Tree.{weightInRange, isLeaf, treeFault, isThin, isBelowRoot, withWeight}
 use Rattle.rules.specs.Budget.{fresh, rowAt, queueAt, submission, wouldBe}
 use Rattle.rules.specs.Tick.{growth, waitingAll}
-use Rattle.rules.specs.Refusals.{Check, _⇒_, firstOf, isFault, isWait, isDebt, costChecks, roomChecks, submitChecks, tickChecks, planChecks, vrateChecks, treeChecks, rateChecks, startChecks}
-use Rattle.rules.specs.Entries.{submittedBy, submitted, tickedBy, ticked, lentBy, lentOf, plannedBy, planned, vratedBy, vrated, startedBy, started, noTree, slowestModel}
+use Rattle.rules.specs.Refusals.{Check, _⇒_, firstOf, isFault, isWait, isDebt, costChecks, roomChecks, submitChecks, tickChecks, planChecks, vrateChecks, weightChecks, treeChecks, rateChecks, startChecks}
+use Rattle.rules.specs.Entries.{submittedBy, submitted, tickedBy, ticked, lentBy, lentOf, plannedBy, planned, vratedBy, vrated, weightedBy, weighted, startedBy, started, noTree, slowestModel}
 use Rattle.rules.specs.Laws.Bools.{never, true-not-false, exactly, exactly-both, exactly-not, at-most, between}
 use Rattle.rules.specs.Laws.Costs.{BioInRange, bio-in-range, RatesInRange, rates-in-range}
 use Rattle.rules.specs.Laws.TreeVerdicts.{sound-when}
@@ -27,10 +27,10 @@ use Rattle.rules.specs.declared.cost.Rates.{Rates}
 use Rattle.rules.specs.declared.cost.Bio.{Bio}
 use Rattle.rules.specs.declared.tree.Tree.{Tree}
 use Rattle.rules.specs.declared.tree.Fault.{Fault}
-use Rattle.rules.specs.declared.tree.Fault.the-variants.{Sound as NoFault}
+use Rattle.rules.specs.declared.tree.Fault.the-variants.{Sound as NoFault, Weight}
 use Rattle.rules.specs.declared.budget.Controller.{Controller}
 use Rattle.rules.specs.declared.refusals.Refusal.{Refusal}
-use Rattle.rules.specs.declared.refusals.Refusal.the-variants.{BadTree, ThinTree, BadRate, NoLeaf, BadBio, TooDear, QueueFull, DebtFull, TimeBack, TimeFar, ClockFull, PlanDue, FewPlaces, NothingPassed, BadVrate}
+use Rattle.rules.specs.declared.refusals.Refusal.the-variants.{BadTree, ThinTree, BadRate, NoLeaf, BadBio, TooDear, QueueFull, DebtFull, TimeBack, TimeFar, ClockFull, PlanDue, FewPlaces, NothingPassed, BadVrate, NotBelowRoot}
 use Rattle.rules.specs.declared.refusals.Verdict.{Verdict}
 use Rattle.rules.specs.declared.refusals.Verdict.the-variants.{Accepted, Refused}
 use Rattle.rules.specs.declared.refusals.Answer.{Answer}
@@ -270,6 +270,69 @@ refusal-15-exactly-when v c =
     (exactly (given-exactly-when [] (not (leb vrateLeast v && leb v vrateMost)) BadVrate [] refl refl)
     (λ w. out .0 (not-true _ (w .1)), λ w. (tt, rw (out .1 w))))
 
+-- ---- the refusals of a weight: 19, then 1, then 2
+weight-refuses : (n w : ℕ) (c : Controller) (x : Refusal) → (weighted n w c .answer ≡ Refused x) ↔ (firstOf (weightChecks n w (c .tree)) ≡ Refused x)
+unfolding weighted weightedBy
+weight-refuses n w c x = go (firstOf (weightChecks n w (c .tree)))
+  where
+    go : (t : Verdict) → (weightedBy t n w c .answer ≡ Refused x) ↔ (t ≡ Refused x)
+    go Accepted = (λ e. e, λ e. e)
+    go (Refused y) = (λ e. e, λ e. e)
+
+module _ (n w : ℕ) (c : Controller) where
+  -- the node is neither the root nor absent
+  abbrev BelowRoot : Type 0
+  BelowRoot = (0 < n) × (n < c .tree .count)
+
+  abbrev WeightInRange : Type 0
+  WeightInRange = (weightLeast ≤ w) × (w ≤ weightMost)
+
+  below-root : (isBelowRoot (c .tree) n ≡ true) ↔ BelowRoot
+  unfolding isBelowRoot
+  below-root = exactly-both _ _ (above-test 0 n) (above-test n (c .tree .count))
+
+  weight-in-range : (weightInRange w ≡ true) ↔ WeightInRange
+  unfolding weightInRange
+  weight-in-range = between weightLeast w weightMost
+
+  not-below-root : Check
+  not-below-root = not (isBelowRoot (c .tree) n) ⇒ NotBelowRoot
+
+  bad-weight : Check
+  bad-weight = not (weightInRange w) ⇒ BadTree (Weight n)
+
+  too-thin : Check
+  too-thin = isThin (withWeight n w (c .tree)) ⇒ ThinTree
+
+  pub refusal-19-exactly-when : (weighted n w c .answer ≡ Refused NotBelowRoot) ↔ (BelowRoot → ⊥)
+  unfolding weightChecks bad-weight too-thin
+  refusal-19-exactly-when =
+      let out = exactly-not (isBelowRoot (c .tree) n) below-root in
+      exactly (weight-refuses n w c NotBelowRoot)
+      (exactly (given-exactly-when [] (not (isBelowRoot (c .tree) n)) NotBelowRoot (bad-weight ∷ too-thin ∷ []) refl refl)
+      (λ h. out .0 (not-true _ (h .1)), λ h. (tt, rw (out .1 h))))
+
+  pub a-weight-is-refused-1-exactly-when : (weighted n w c .answer ≡ Refused (BadTree (Weight n))) ↔ (BelowRoot × (WeightInRange → ⊥))
+  unfolding weightChecks not-below-root too-thin
+  a-weight-is-refused-1-exactly-when =
+      let out = exactly-not (weightInRange w) weight-in-range in
+      exactly (weight-refuses n w c (BadTree (Weight n)))
+      (exactly (given-exactly-when (not-below-root ∷ []) (not (weightInRange w)) (BadTree (Weight n)) (too-thin ∷ []) refl refl) (
+        λ h. (below-root .0 (not-test _ .0 (h .0 .0)), out .0 (not-true _ (h .1))),
+        λ h. ((not-test _ .1 (below-root .1 (h .0)), tt), rw (out .1 (h .1))),
+      ))
+
+  -- thin is the tree with the new weight, with all its leaves active
+  pub a-weight-is-refused-2-exactly-when : (weighted n w c .answer ≡ Refused ThinTree)
+      ↔ (BelowRoot × WeightInRange × (isThin (withWeight n w (c .tree)) ≡ true))
+  unfolding weightChecks not-below-root bad-weight
+  a-weight-is-refused-2-exactly-when =
+      exactly (weight-refuses n w c ThinTree)
+      (exactly (given-exactly-when (not-below-root ∷ bad-weight ∷ []) (isThin (withWeight n w (c .tree))) ThinTree [] refl refl) (
+        λ h. (below-root .0 (not-test _ .0 (h .0 .0)), weight-in-range .0 (not-test _ .0 (h .0 .1 .0)), h .1),
+        λ h. ((not-test _ .1 (below-root .1 (h .0)), (not-test _ .1 (weight-in-range .1 (h .1)), tt)), h .2),
+      ))
+
 -- ---- the refusals of start
 start-refuses : (t : Tree) (r : Rates) (time : ℕ) (x : Refusal) → (started t r time .answer ≡ Refused x) ↔ (firstOf (startChecks t r) ≡ Refused x)
 start-refuses t r time x = (λ e. sym (start-answers t r time) ∙ e, λ e. start-answers t r time ∙ e)
@@ -333,6 +396,10 @@ a-refused-plan-changes-nothing c x e = ap (λ (v : Verdict). plannedBy v c .stat
 pub a-refused-vrate-changes-nothing : (v : ℕ) (c : Controller) (x : Refusal) → vrated v c .answer ≡ Refused x → vrated v c .state ≡ c
 unfolding vrated vratedBy
 a-refused-vrate-changes-nothing v c x e = ap (λ (w : Verdict). vratedBy w v c .state) (vrate-refuses v c x .0 e)
+
+pub a-refused-weight-changes-nothing : (n w : ℕ) (c : Controller) (x : Refusal) → weighted n w c .answer ≡ Refused x → weighted n w c .state ≡ c
+unfolding weighted weightedBy
+a-refused-weight-changes-nothing n w c x e = ap (λ (v : Verdict). weightedBy v n w c .state) (weight-refuses n w c x .0 e)
 
 -- a refused start has no state to keep: the one that it hands out has no leaf
 pub a-refused-start-has-no-leaf : (t : Tree) (r : Rates) (time : ℕ) (x : Refusal) → started t r time .answer ≡ Refused x

@@ -15,7 +15,7 @@ use borrow.Author.Tests.{leb-true}
 use Rattle.rules.specs.Numbers.{nodesMost}
 use Rattle.rules.specs.Tree.{parent, last, nodeFault, newestFault, countInRange, treeFault}
 use Rattle.rules.specs.Refusals.{Check, number, firstOf, nodeChecks, rateChecks, treeChecks, startChecks}
-use Rattle.rules.specs.Entries.{noTree, slowest, started, startedBy, submitted, ticked, planned, vrated}
+use Rattle.rules.specs.Entries.{noTree, slowest, started, startedBy, submitted, ticked, planned, setBy}
 use Rattle.rules.specs.Trace.{kindOf}
 use Rattle.rules.specs.Replay.{Step, refusalLine, inPhase, isStopped, within, stopsAt, silent, beginning, grown, allRoom, nodeStep, modelStep, startStep, recordStep, readStep, stepped}
 use Rattle.rules.specs.Invariant.{Sound, Playing}
@@ -25,7 +25,8 @@ use Rattle.rules.specs.Laws.Lines.{refusal-line-tells, refusal-line-some
 use Rattle.rules.specs.Laws.Passes.{check-passed, start-answers}
 use Rattle.rules.specs.Laws.Trees.{parent-is, node-sound}
 use Rattle.rules.specs.Laws.TreeVerdicts.{sound-when}
-use Rattle.rules.specs.Laws.Starts.{start-gives, vrate-keeps}
+use Rattle.rules.specs.Laws.Starts.{start-gives}
+use Rattle.rules.specs.Laws.Settings.{set-keeps}
 use Rattle.rules.specs.Laws.Submits.{submit-keeps}
 use Rattle.rules.specs.Laws.Ticks.{ticked-keeps}
 use Rattle.rules.specs.Laws.Plans.{planned-keeps}
@@ -38,12 +39,14 @@ use Rattle.rules.specs.declared.refusals.Refusal.the-variants.{WrongPhas
 use Rattle.rules.specs.declared.refusals.Verdict.{Verdict}
 use Rattle.rules.specs.declared.refusals.Verdict.the-variants.{Accepted, Refused}
 use Rattle.rules.specs.declared.trace.Record.{Record}
-use Rattle.rules.specs.declared.trace.Record.the-variants.{Node, Model as ModelOf, Start, Bio as BioOf, Tick, Plan, Vrate}
+use Rattle.rules.specs.declared.trace.Record.the-variants.{Node, Model as ModelOf, Start, Bio as BioOf, Tick, Plan, Vrate, Weight}
 use Rattle.rules.specs.declared.trace.Read.{Read}
 use Rattle.rules.specs.declared.trace.Read.the-variants.{Found, End, Refused as Unread}
 use Rattle.rules.specs.declared.replay.Phase.{Phase}
 use Rattle.rules.specs.declared.replay.Phase.the-variants.{Priced, Running, Stopped}
 use Rattle.rules.specs.declared.replay.Replay.{Replay}
+use Rattle.rules.specs.declared.replay.Setting.{Setting}
+use Rattle.rules.specs.declared.replay.Setting.the-variants.{Vrate as SetVrate, Weight as SetWeight}
 
 -- ---- the beginning: the root alone, and the state of a refused start
 no-state-yet : Sound (beginning .state)
@@ -117,6 +120,9 @@ module _ {s : Replay} (h : Playing s) where
   start-step-plays c sound Accepted = state-plays Running (s .rates) c sound
   start-step-plays c sound (Refused x) = stop-plays x
 
+set-plays : (x : Setting) (s : Replay) → Playing s → Playing (within (s .phase) (s .tree) (s .rates) (setBy x (s .state) .state))
+set-plays x s h = state-plays h (s .phase) (s .rates) (setBy x (s .state) .state) (set-keeps x (h .state))
+
 pub record-step-plays : (r : Record) (s : Replay) → Playing s → Playing (recordStep r s .replay)
 unfolding recordStep
 record-step-plays (Node p w) s h = node-step-plays h p w (firstOf (nodeChecks (grown p w (s .tree)))) refl
@@ -128,7 +134,8 @@ record-step-plays (BioOf b) s h = state-plays h (s .phase) (s .rates) (submitted
 record-step-plays (Tick time) s h =
     state-plays h (s .phase) (s .rates) (ticked time allRoom (s .state) .state) (ticked-keeps (h .state) time allRoom)
 record-step-plays Plan s h = state-plays h (s .phase) (s .rates) (planned (s .state) .state) (planned-keeps (h .state))
-record-step-plays (Vrate v) s h = state-plays h (s .phase) (s .rates) (vrated v (s .state) .state) (vrate-keeps (h .state) v)
+record-step-plays (Vrate v) s h = set-plays (SetVrate v) s h
+record-step-plays (Weight n w) s h = set-plays (SetWeight n w) s h
 
 pub read-step-plays : (read : Read) (s : Replay) → Playing s → Playing (readStep read s .replay)
 unfolding readStep
@@ -158,6 +165,7 @@ calls-go-on (BioOf b) s h = refl
 calls-go-on (Tick time) s h = refl
 calls-go-on Plan s h = refl
 calls-go-on (Vrate v) s h = refl
+calls-go-on (Weight n w) s h = refl
 
 -- ---- ".. first checked for 16, 17 and 18": what cannot be read stops the replay, then a record out of its phase; any other
 -- is carried out
@@ -217,6 +225,7 @@ module _ (s : Replay) (goes : isStopped (s .phase) ≡ false) where
   setup-step (Tick time) k = absurd (omega arith)
   setup-step Plan k = absurd (omega arith)
   setup-step (Vrate v) k = absurd (omega arith)
+  setup-step (Weight n w) k = absurd (omega arith)
 
   -- "After R in setup .. it stops"
   pub refused-in-setup-stops : (r : Record) → kindOf r < 4 → (x : Refusal) → recordStep r s .bytes ≡ refusalLine x → recordStep r s .replay .phase ≡ Stopped

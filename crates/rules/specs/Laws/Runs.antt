@@ -23,7 +23,7 @@ use Rattle.rules.specs.Laws.Ticks.{ticked-keeps}
 use Rattle.rules.specs.Laws.Plans.{planned-keeps}
 use Rattle.rules.specs.declared.budget.Controller.{Controller}
 use Rattle.rules.specs.declared.trace.Record.{Record}
-use Rattle.rules.specs.declared.trace.Record.the-variants.{Node, Model as ModelOf, Start, Bio as BioOf, Tick, Plan, Vrate}
+use Rattle.rules.specs.declared.trace.Record.the-variants.{Node, Model as ModelOf, Start, Bio as BioOf, Tick, Plan, Vrate, Weight}
 use Rattle.rules.specs.declared.trace.Read.{Read}
 use Rattle.rules.specs.declared.trace.Read.the-variants.{Found, End, Refused as Unread}
 use Rattle.rules.specs.declared.replay.Call.{Call}
@@ -62,6 +62,7 @@ called-step (BioOf b) next s e h = rw e
 called-step (Tick time) next s e h = rw e
 called-step Plan next s e h = rw e
 called-step (Vrate v) next s e h = rw e
+called-step (Weight n w) next s e h = rw e
 
 pub call-steps : (read : Read) (s : Replay) → runs (s .phase) read ≡ true → readStep read s ≡ goesOn (calling (callOf read) (s .state)) s
 unfolding runs isCall callOf

@@ -19,7 +19,7 @@ use Rattle.rules.specs.Laws.Bools.{never, true-not-false, and-right}
 use Rattle.rules.specs.declared.refusals.Refusal.{Refusal}
 use Rattle.rules.specs.declared.refusals.Refusal.the-variants.{UnknownKind, CutShort, ShortBuffer}
 use Rattle.rules.specs.declared.trace.Record.{Record}
-use Rattle.rules.specs.declared.trace.Record.the-variants.{Node, Model, Start, Bio as BioOf, Tick, Plan, Vrate}
+use Rattle.rules.specs.declared.trace.Record.the-variants.{Node, Model, Start, Bio as BioOf, Tick, Plan, Vrate, Weight}
 use Rattle.rules.specs.declared.trace.Read.{Read}
 use Rattle.rules.specs.declared.trace.Read.the-variants.{Found, End, Refused}
 use Rattle.rules.specs.declared.trace.Write.the-variants.{Wrote, Refused as Unwritten}
@@ -117,18 +117,19 @@ fields-fit (w ∷ ws) bs h l =
     (rw long at (number-below (take w bs) (bytes-take w bs h)), fields-fit ws (drop w bs) (bytes-drop w bs h) left)
 
 -- ---- a record, its kind and its fields
-pub kinds : (P : ℕ → Type 0) → P 1 → P 2 → P 3 → P 4 → P 5 → P 6 → P 7 → (kind : ℕ) → isKind kind ≡ true → P kind
+pub kinds : (P : ℕ → Type 0) → P 1 → P 2 → P 3 → P 4 → P 5 → P 6 → P 7 → P 8 → (kind : ℕ) → isKind kind ≡ true → P kind
 unfolding isKind
-kinds P p1 p2 p3 p4 p5 p6 p7 zero e = absurd (true-not-false e refl)
-kinds P p1 p2 p3 p4 p5 p6 p7 (suc zero) e = p1
-kinds P p1 p2 p3 p4 p5 p6 p7 (suc (suc zero)) e = p2
-kinds P p1 p2 p3 p4 p5 p6 p7 (suc (suc (suc zero))) e = p3
-kinds P p1 p2 p3 p4 p5 p6 p7 (suc (suc (suc (suc zero)))) e = p4
-kinds P p1 p2 p3 p4 p5 p6 p7 (suc (suc (suc (suc (suc zero))))) e = p5
-kinds P p1 p2 p3 p4 p5 p6 p7 (suc (suc (suc (suc (suc (suc zero)))))) e = p6
-kinds P p1 p2 p3 p4 p5 p6 p7 (suc (suc (suc (suc (suc (suc (suc zero))))))) e = p7
-kinds P p1 p2 p3 p4 p5 p6 p7 (suc (suc (suc (suc (suc (suc (suc (suc kind)))))))) e =
-    let most : suc (suc (suc (suc (suc (suc (suc (suc kind))))))) ≤ 7 = leb-true _ _ (and-right (leb 1 (suc (suc (suc (suc (suc (suc (suc (suc kind))))))))) _ e) in
+kinds P p1 p2 p3 p4 p5 p6 p7 p8 zero e = absurd (true-not-false e refl)
+kinds P p1 p2 p3 p4 p5 p6 p7 p8 (suc zero) e = p1
+kinds P p1 p2 p3 p4 p5 p6 p7 p8 (suc (suc zero)) e = p2
+kinds P p1 p2 p3 p4 p5 p6 p7 p8 (suc (suc (suc zero))) e = p3
+kinds P p1 p2 p3 p4 p5 p6 p7 p8 (suc (suc (suc (suc zero)))) e = p4
+kinds P p1 p2 p3 p4 p5 p6 p7 p8 (suc (suc (suc (suc (suc zero))))) e = p5
+kinds P p1 p2 p3 p4 p5 p6 p7 p8 (suc (suc (suc (suc (suc (suc zero)))))) e = p6
+kinds P p1 p2 p3 p4 p5 p6 p7 p8 (suc (suc (suc (suc (suc (suc (suc zero))))))) e = p7
+kinds P p1 p2 p3 p4 p5 p6 p7 p8 (suc (suc (suc (suc (suc (suc (suc (suc zero)))))))) e = p8
+kinds P p1 p2 p3 p4 p5 p6 p7 p8 (suc (suc (suc (suc (suc (suc (suc (suc (suc kind))))))))) e =
+    let most : suc (suc (suc (suc (suc (suc (suc (suc (suc kind)))))))) ≤ 8 = leb-true _ _ (and-right (leb 1 (suc (suc (suc (suc (suc (suc (suc (suc (suc kind)))))))))) _ e) in
     absurd (omega arith)
 
 pub kind-known : (r : Record) → isKind (kindOf r) ≡ true
@@ -140,6 +141,7 @@ kind-known (BioOf b) = refl
 kind-known (Tick t) = refl
 kind-known Plan = refl
 kind-known (Vrate v) = refl
+kind-known (Weight n w) = refl
 
 pub record-of-fields : (r : Record) → recordOf (kindOf r) (fieldsOf r) ≡ r
 unfolding fieldsOf recordOf
@@ -150,16 +152,17 @@ record-of-fields (BioOf b) = refl
 record-of-fields (Tick t) = refl
 record-of-fields Plan = refl
 record-of-fields (Vrate v) = refl
+record-of-fields (Weight n w) = refl
 
 pub kind-of-record : (fs : List ℕ) (kind : ℕ) → isKind kind ≡ true → kindOf (recordOf kind fs) ≡ kind
 unfolding recordOf
-kind-of-record fs = kinds (λ kind. kindOf (recordOf kind fs) ≡ kind) refl refl refl refl refl refl refl
+kind-of-record fs = kinds (λ kind. kindOf (recordOf kind fs) ≡ kind) refl refl refl refl refl refl refl refl
 
 pub fields-of-record : (bs : List ℕ) (kind : ℕ) → isKind kind ≡ true
     → fieldsOf (recordOf kind (fieldsFrom (layout kind) bs)) ≡ fieldsFrom (layout kind) bs
 unfolding fieldsOf recordOf fieldsFrom layout
 fields-of-record bs =
-    kinds (λ kind. fieldsOf (recordOf kind (fieldsFrom (layout kind) bs)) ≡ fieldsFrom (layout kind) bs) refl refl refl refl refl refl refl
+    kinds (λ kind. fieldsOf (recordOf kind (fieldsFrom (layout kind) bs)) ≡ fieldsFrom (layout kind) bs) refl refl refl refl refl refl refl refl
 
 -- ---- each answer of reading at a place, and when it is given
 module _ (trace : List ℕ) (at : ℕ) where
@@ -400,6 +403,7 @@ oneOfEach =
     ∷ Tick 578437695752307201
     ∷ Plan
     ∷ Vrate 513
+    ∷ Weight 1 770
     ∷ []
 
 abbrev pub counting : ℕ → List ℕ
@@ -407,7 +411,7 @@ counting n = tableFrom (λ i. i) 1 n
 
 pub one-of-each-in-bytes :
     traceOf oneOfEach
-    ≡ (1 ∷ counting 3) ++ ((2 ∷ counting 48) ++ ((3 ∷ counting 8) ++ ((4 ∷ counting 18) ++ ((5 ∷ counting 8) ++ ((6 ∷ []) ++ (7 ∷ counting 2))))))
+    ≡ (1 ∷ counting 3) ++ ((2 ∷ counting 48) ++ ((3 ∷ counting 8) ++ ((4 ∷ counting 18) ++ ((5 ∷ counting 8) ++ ((6 ∷ []) ++ ((7 ∷ counting 2) ++ (8 ∷ counting 3)))))))
 unfolding traceOf oneOfEach recordBytes bodyOf bytesOf layout fieldsOf tableFrom
 one-of-each-in-bytes = refl
 

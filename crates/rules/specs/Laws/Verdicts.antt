@@ -70,7 +70,7 @@ not-given x (k ∷ ks) l e =
         other-number x (k .refusal) (and-left (not (eqb (number (k .refusal)) (number x))) (lacks (number x) ks) l) (same-refusal (k .refusal) x f)
     go false f i = i f
 
--- ---- "Given exactly when": its check holds, and none before it in the table does
+-- ---- "Given exactly when": its check holds, and none before it in the list does
 pub given-exactly-when : (before : List Check) (b : Bool) (x : Refusal) (behind : List Check)
     → lacks (number x) before ≡ true → lacks (number x) behind ≡ true
     → (firstOf (before ++ (b ⇒ x) ∷ behind) ≡ Refused x) ↔ (NoneHolds before × (b ≡ true))

@@ -11,21 +11,27 @@ use native.Mathlib.Omega.{arith}
 use lib.Dec.{eqb, leb, ltb}
 use lib.ListN.{length, getD, set}
 use lib.Seq.{getD-set-same, getD-set-other}
+use borrow.Author.Tests.{ltb-true}
 use Rattle.rules.specs.Numbers.{nodesMost, leafMost, weightLeast, weightMost}
 use Rattle.rules.specs.Words.{noNode}
-use Rattle.rules.specs.Tree.{parent, weight, last, levelIn, level, weightInRange, isLeaf, leavesOf, baseShares, isThin, withWeight}
-use Rattle.rules.specs.Budget.{emptyQueue, rowAt, withTree, reshared, rebased, reweighted}
+use Rattle.rules.specs.Tree.{parent, weight, last, levelIn, level, weightInRange, isLeaf, leavesOf, baseShares, isThin, isBelowRoot, withWeight}
+use Rattle.rules.specs.Budget.{emptyQueue, rowAt, shareAt, withTree, withBudget, rebudget, reshared, rebased, reweighted}
+use Rattle.rules.specs.Refusals.{firstOf, weightChecks}
+use Rattle.rules.specs.Entries.{weightedBy, weighted}
 use Rattle.rules.specs.Invariant.{SoundTree, Sound}
 use Rattle.rules.specs.Ledger.{costOfFirst, waiting, owed, saved}
-use Rattle.rules.specs.Laws.Bools.{true-not-false}
+use Rattle.rules.specs.Laws.Bools.{true-not-false, and-left, and-right}
 use Rattle.rules.specs.Laws.Sums.{sum-le, any-cong}
 use Rattle.rules.specs.Laws.Sets.{has-none, set-cong}
 use Rattle.rules.specs.Laws.Trees.{weight-range}
-use Rattle.rules.specs.Laws.Resharing.{SoundRoles, SoundBooks, Reweighed, rebasing-keeps, rebasing-reweighs, active-of-rebased}
+use Rattle.rules.specs.Laws.Passes.{weight-passes}
+use Rattle.rules.specs.Laws.Resharing.{SoundRoles, SoundBooks, Reweighed, reshared-row, rebasing-keeps, rebasing-reweighs, active-of-rebased}
 use Rattle.rules.specs.declared.tree.Tree.{Tree}
 use Rattle.rules.specs.declared.budget.Row.{Row}
 use Rattle.rules.specs.declared.budget.Queue.{Queue}
 use Rattle.rules.specs.declared.budget.Controller.{Controller}
+use Rattle.rules.specs.declared.refusals.Verdict.{Verdict}
+use Rattle.rules.specs.declared.refusals.Verdict.the-variants.{Accepted, Refused}
 
 -- ---- what the tree keeps: all but the one weight
 module _ (n w : ℕ) (t : Tree) where
@@ -55,14 +61,30 @@ module _ (n w : ℕ) (t : Tree) where
   unfolding leavesOf
   weight-keeps-leaves = set-cong (isLeaf (withWeight n w t)) (isLeaf t) nodesMost (λ k l. weight-keeps-each-leaf k)
 
-  -- the node has the weight, and every other node the one that it had
-  pub weight-is-set : n < length (t .weights) → weight (withWeight n w t) n ≡ w
-  unfolding weight
-  weight-is-set l = getD-set-same (t .weights) n w 0 l
-
+  -- every other node has the weight that it had
   pub weight-of-others-stays : (k : ℕ) → k ≢ n → weight (withWeight n w t) k ≡ weight t k
   unfolding weight
   weight-of-others-stays k ne = getD-set-other (t .weights) n k w 0 ne
+
+-- ---- in a sound tree the node has a place, and there the weight
+module _ {t : Tree} (sound : SoundTree t) (n : ℕ) (below : isBelowRoot t n ≡ true) where
+  counted : (0 < n) × (n < t .count)
+  unfolding isBelowRoot
+  counted = (ltb-true 0 n (and-left (ltb 0 n) (ltb n (t .count)) below), ltb-true n (t .count) (and-right (ltb 0 n) (ltb n (t .count)) below))
+
+  pub below-root-inside : n < nodesMost
+  below-root-inside = omega (arith, counted .1, sound .most)
+
+  pub weight-is-set : (w : ℕ) → weight (withWeight n w t) n ≡ w
+  unfolding weight last
+  weight-is-set w =
+      dite (decLt n (length (t .weights))) (λ (h : n < length (t .weights)). getD-set-same (t .weights) n w 0 h)
+      (λ g. absurd (omega (arith, sound .light n (counted .0) (omega (arith, counted .1)), none-past (t .weights) n (le-of-suc-le-suc (lt-of-not-le g)))))
+    where
+      none-past : (l : List ℕ) (i : ℕ) → length l ≤ i → getD l i 0 ≡ 0
+      none-past [] i h = refl
+      none-past (x ∷ l) zero h = absurd (omega arith)
+      none-past (x ∷ l) (suc i) h = none-past l i (omega arith)
 
 -- ---- a sound tree stays sound
 -- what holds of the new value and of every old one holds at every place of the list, also where the place that is set is none
@@ -133,17 +155,18 @@ module _ {c : Controller} (sound : Sound c) (n w : ℕ) where
   unfolding saved
   weight-saves-nothing = sum-le _ _ leafMost (λ k p q. weight-reweighs .worth k)
 
+  pub weight-keeps-queues : reweighted n w c .queues ≡ c .queues
+  weight-keeps-queues = weight-reweighs .queues
+
+  -- of each row the budget alone moves: debt, usage, end and what was accepted stay
+  pub weight-changes-budgets-alone : (k : ℕ) → rowAt (reweighted n w c) k ≡ withBudget (rowAt (reweighted n w c) k .budget) (rowAt c k)
+  weight-changes-budgets-alone = weight-reweighs .row
+
   pub weight-keeps-waiting : (k : ℕ) → waiting (reweighted n w c) k ≡ waiting c k
   weight-keeps-waiting k = ap (λ (q : List Queue). costOfFirst (getD q k emptyQueue) (getD q k emptyQueue .len)) (weight-reweighs .queues)
 
   pub weight-keeps-owed : (k : ℕ) → owed (reweighted n w c) k ≡ owed c k
   weight-keeps-owed k = ap (λ (r : Row). r .debt .0) (weight-reweighs .row k)
-
-  pub weight-keeps-usage : (k : ℕ) → rowAt (reweighted n w c) k .usage ≡ rowAt c k .usage
-  weight-keeps-usage k = ap (λ (r : Row). r .usage) (weight-reweighs .row k)
-
-  pub weight-keeps-ends : (k : ℕ) → rowAt (reweighted n w c) k .end ≡ rowAt c k .end
-  weight-keeps-ends k = ap (λ (r : Row). r .end) (weight-reweighs .row k)
 
   pub weight-keeps-the-clock : reweighted n w c .clock ≡ c .clock
   weight-keeps-the-clock = weight-reweighs .clock
@@ -163,3 +186,23 @@ module _ {c : Controller} (sound : Sound c) (n w : ℕ) where
   pub weight-gives-base-shares : reweighted n w c .shares ≡ baseShares (withWeight n w (c .tree)) (c .active)
   unfolding reweighted rebased reshared
   weight-gives-base-shares = refl
+
+  -- ---- "budgets follow the rule for rising shares", from the share held before the call, donated or not, to the one after it
+  pub weight-scales-budgets : (k : ℕ) → rowAt (reweighted n w c) k .budget ≡ rebudget (shareAt c k) (shareAt (reweighted n w c) k) (rowAt c k .budget)
+  unfolding reweighted rebased reshared
+  weight-scales-budgets k =
+      ap (λ (r : Row). r .budget)
+      (reshared-row (c .active) noNode (baseShares (withWeight n w (c .tree)) (c .active)) (withTree (withWeight n w (c .tree)) c) (sound .rows-all) k)
+
+-- ---- the call: accepted it is this change, and refused or not the state stays sound
+pub an-accepted-weight-is-in-force : (n w : ℕ) (c : Controller) → firstOf (weightChecks n w (c .tree)) ≡ Accepted → weighted n w c .state ≡ reweighted n w c
+unfolding weighted weightedBy
+an-accepted-weight-is-in-force n w c e = ap (λ (v : Verdict). weightedBy v n w c .state) e
+
+pub weighted-keeps : {c : Controller} → Sound c → (n w : ℕ) → Sound (weighted n w c .state)
+unfolding weighted weightedBy
+weighted-keeps {c} sound n w = go (firstOf (weightChecks n w (c .tree))) refl
+  where
+    go : (v : Verdict) → firstOf (weightChecks n w (c .tree)) ≡ v → Sound (weightedBy v n w c .state)
+    go Accepted e = let p = weight-passes n w (c .tree) e in weight-keeps sound n w (p .range) (p .thick)
+    go (Refused x) e = sound
