@@ -13,7 +13,7 @@ use rules::refusals::Refusal;
 use rules::refusals::Verdict;
 use sets::has;
 
-// The number of each refusal in document 01's table.
+// The number of each refusal in the documents.
 pub fn number_of(x: Refusal) -> u64
     ensures { λ r. ⌜ r ≡ number x ⌝ }
 {
@@ -36,6 +36,7 @@ pub fn number_of(x: Refusal) -> u64
         Refusal::UnknownKind => 16,
         Refusal::CutShort => 17,
         Refusal::WrongPhase => 18,
+        Refusal::NotBelowRoot => 19,
         Refusal::ShortBuffer => 28,
     }
 }

@@ -19,7 +19,7 @@ use Rattle.rules.specs.Trace.{bytesOf, isKind, layout, total, kindOf, fieldsOf,
 use Rattle.rules.specs.Laws.Trace.{kinds}
 use Rattle.rules.specs.declared.refusals.Refusal.the-variants.{ShortBuffer}
 use Rattle.rules.specs.declared.trace.Record.{Record}
-use Rattle.rules.specs.declared.trace.Record.the-variants.{Node, Model, Start, Bio, Tick, Plan, Vrate}
+use Rattle.rules.specs.declared.trace.Record.the-variants.{Node, Model, Start, Bio, Tick, Plan, Vrate, Weight}
 use Rattle.rules.specs.declared.trace.Write.the-variants.{Wrote, Refused}
 use Rattle.trace.specs.Laid.{laid}
 use Rattle.trace.proofs.Laid.{laid-one, laid-on, laid-length, length-body-le}
@@ -34,10 +34,11 @@ numbers-fit (Bio b) vs is = omega (arith, owed the-type the-laws (Bio b) vs is)
 numbers-fit (Tick t) vs is = omega (arith, owed the-type the-laws (Tick t) vs is)
 numbers-fit Plan vs is = tt
 numbers-fit (Vrate v) vs is = omega (arith, owed the-type the-laws (Vrate v) vs is)
+numbers-fit (Weight n w) vs is = omega (arith, owed the-type the-laws (Weight n w) vs is)
 
 pub body-most : (kind : ℕ) → isKind kind ≡ true → total (layout kind) ≤ 48
 unfolding layout
-body-most = kinds (λ kind. total (layout kind) ≤ 48) (lit≤ tt) (lit≤ tt) (lit≤ tt) (lit≤ tt) (lit≤ tt) (lit≤ tt) (lit≤ tt)
+body-most = kinds (λ kind. total (layout kind) ≤ 48) (lit≤ tt) (lit≤ tt) (lit≤ tt) (lit≤ tt) (lit≤ tt) (lit≤ tt) (lit≤ tt) (lit≤ tt)
 
 length-record : (r : Record) → length (recordBytes r) ≡ total (layout (kindOf r)) + 1
 unfolding recordBytes bodyOf bytesOf layout fieldsOf
@@ -48,6 +49,7 @@ length-record (Bio b) = refl
 length-record (Tick t) = refl
 length-record Plan = refl
 length-record (Vrate v) = refl
+length-record (Weight n w) = refl
 
 record-laid : (r : Record) (l : List ℕ) → length (recordBytes r) ≤ length l
     → laid (bodyOf (layout (kindOf r)) (fieldsOf r)) 1 (set l 0 (kindOf r)) ≡ recordBytes r ++ drop (length (recordBytes r)) l

@@ -78,7 +78,11 @@ fn record_at(trace: &[u8], body: usize, kind: u8) -> Record
         4 => Record::Bio(bio_at(trace, body)),
         5 => Record::Tick(number(trace, body, 8)),
         6 => Record::Plan,
-        _ => Record::Vrate(number(trace, body, 2) as u16),
+        7 => Record::Vrate(number(trace, body, 2) as u16),
+        _ => Record::Weight(
+            trace[body],
+            number(trace, body + layout::WEIGHT_WEIGHT, 2) as u16,
+        ),
     }
 }
 

@@ -12,10 +12,10 @@ ghost use Rattle.rules.specs.Trace.{bytesOf, layout, total, kindOf};
 ghost use Rattle.trace.specs.Answers.{Writes, WriteOnPaper};
 ghost use Rattle.trace.specs.Laid.{laid, bodyLaid};
 
-// Where a record's fields stand behind its kind.
+// Where a record's fields stand behind its kind. Two kinds have a weight: the names of its places say whose it is.
 const BODY: usize = layout::BODY;
 
-const WEIGHT: usize = layout::BODY + layout::NODE_WEIGHT;
+const NODE_WEIGHT: usize = layout::BODY + layout::NODE_WEIGHT;
 
 const RSEQIOPS: usize = layout::BODY + layout::MODEL_RSEQIOPS;
 
@@ -34,6 +34,8 @@ const ID: usize = layout::BODY + layout::BIO_ID;
 const SECTOR: usize = layout::BODY + layout::BIO_SECTOR;
 
 const BYTES: usize = layout::BODY + layout::BIO_BYTES;
+
+const WEIGHT_WEIGHT: usize = layout::BODY + layout::WEIGHT_WEIGHT;
 
 // "numbers little-endian": the least byte first.
 fn put(lent: &mut [u8], at: usize, width: usize, number: u64)
@@ -82,7 +84,7 @@ fn put_body(r: Record, lent: &mut [u8])
     match r {
         Record::Node(parent, weight) => {
             put(lent, BODY, 1, parent as u64);
-            put(lent, WEIGHT, 2, weight as u64);
+            put(lent, NODE_WEIGHT, 2, weight as u64);
         }
         Record::Model(rates) => put_rates(rates, lent),
         Record::Start(time) => put(lent, BODY, 8, time),
@@ -90,6 +92,10 @@ fn put_body(r: Record, lent: &mut [u8])
         Record::Tick(time) => put(lent, BODY, 8, time),
         Record::Plan => {}
         Record::Vrate(vrate) => put(lent, BODY, 2, vrate as u64),
+        Record::Weight(node, weight) => {
+            put(lent, BODY, 1, node as u64);
+            put(lent, WEIGHT_WEIGHT, 2, weight as u64);
+        }
     }
 }
 

@@ -4,7 +4,7 @@ ghost use mathlib.Core.Bool.{true};
 ghost use mathlib.Core.Path.{_≡_};
 ghost use Rattle.rules.specs.Trace.{isKind, layout, total, kindOf};
 
-const LAST_KIND: u8 = 7;
+const LAST_KIND: u8 = 8;
 
 // Where a body begins behind its kind, and where in a body each field but the first begins.
 pub(crate) const BODY: usize = 1;
@@ -29,6 +29,8 @@ pub(crate) const BIO_SECTOR: usize = 6;
 
 pub(crate) const BIO_BYTES: usize = 14;
 
+pub(crate) const WEIGHT_WEIGHT: usize = 1;
+
 // "One byte of kind .."
 pub(crate) fn body_len(kind: u8) -> usize
     requires { ⌜ isKind kind ≡ true ⌝ }
@@ -41,11 +43,12 @@ pub(crate) fn body_len(kind: u8) -> usize
         4 => 18,
         5 => 8,
         6 => 0,
-        _ => 2,
+        7 => 2,
+        _ => 3,
     }
 }
 
-// "Setup: 1 node .. After start: .. 7 vrate"
+// "Setup: 1 node .. After start: .. 7 vrate"; request One's "trace record 8"
 pub(crate) fn is_kind(kind: u8) -> bool
     ensures { λ r. ⌜ r ≡ isKind kind ⌝ }
 {
@@ -67,5 +70,6 @@ pub fn kind_of(r: Record) -> u8
         Record::Tick(_) => 5,
         Record::Plan => 6,
         Record::Vrate(_) => 7,
+        Record::Weight(_, _) => 8,
     }
 }

@@ -3,7 +3,7 @@
 use mathlib.Core.Path.{_≡_}
 use native.Mathlib.Omega.{arith}
 use Rattle.rules.specs.Trace.{layout, fieldsFrom, recordOf}
-use Rattle.trace.proofs.Fields.{kind-within, byte-number, node-record}
+use Rattle.trace.proofs.Fields.{last-kind, weighed-fields}
 use borrow.Author.Needs.{needs}
 use Rattle.trace.proofs.decoder.record_at.Statement.{statement}
 use Rattle.trace.proofs.decoder.record_at.Tie as tie
@@ -40,19 +40,34 @@ number-requires-3 c κs = omega (arith, rw (c .match .keys5) at (c .before .befo
 
 number-requires-4 : tie.Need-number-requires-4
 unfolding layout
-number-requires-4 c κs =
-    let start = c .before .before in
-    let seventh : start .args .kind ≡ 7 = omega (arith, kind-within (start .args .kind) (start .pre .0)) in
-    omega (arith, rw seventh at (start .pre .1))
+number-requires-4 c κs = omega (arith, rw (c .match .keys7) at (c .before .before .pre .1))
 
 cast-t15 : tie.Need-cast-t15
 cast-t15 c = search needs
 
+-- the kind of the last arm
+eighth : (c : tie.At-match-rest) → c .before .before .args .kind ≡ 8
+eighth c = last-kind (c .before .before .args .kind) (c .before .before .pre .0) (c .match .rest)
+
+shared-slice-read-t17 : tie.Need-shared-slice-read-t17
+unfolding layout
+shared-slice-read-t17 c = omega (arith, rw (eighth (c .before)) at (c .before .before .before .pre .1))
+
+add-number-2 : tie.Need-add-number-2
+add-number-2 c = search needs
+
+number-requires-5 : tie.Need-number-requires-5
+unfolding layout
+number-requires-5 c κs = omega (arith, rw (eighth (c .before)) at (c .before .before .before .pre .1))
+
+cast-t20 : tie.Need-cast-t20
+cast-t20 c = search needs
+
 returns : tie.Need-returns
+unfolding layout recordOf
 returns c =
     let start = c .before .before .before .before in
-    node-record (start .args .trace .now) (start .args .body) _ _ _ (c .before .before .match .keys1)
-    (byte-number (start .args .trace .now) (start .args .body) (shared-slice-read-t6 (c .before))) (c .number .ensures .0)
+    rw (c .before .before .match .keys1, weighed-fields (start .args .trace .now) (start .args .body) (shared-slice-read-t6 (c .before)) (c .number .ensures .0))
 
 returns-2 : tie.Need-returns-2
 unfolding recordOf
@@ -76,10 +91,13 @@ returns-6 c = rw (c .match .keys6)
 
 returns-7 : tie.Need-returns-7
 unfolding layout fieldsFrom recordOf
-returns-7 c =
-    let start = c .before .before .before in
-    let seventh : start .args .kind ≡ 7 = omega (arith, kind-within (start .args .kind) (start .pre .0)) in
-    rw (seventh, c .number4 .ensures .0)
+returns-7 c = rw (c .before .match .keys7, c .number4 .ensures .0)
+
+returns-8 : tie.Need-returns-8
+unfolding layout recordOf
+returns-8 c =
+    let start = c .before .before .before .before in
+    rw (eighth (c .before .before), weighed-fields (start .args .trace .now) (start .args .body) (shared-slice-read-t17 (c .before)) (c .number5 .ensures .0))
 
 pub record-at-spec : {M : Type 1} → statement M
 record-at-spec =
@@ -95,10 +113,15 @@ record-at-spec =
     number-requires-3
     number-requires-4
     cast-t15
+    shared-slice-read-t17
+    add-number-2
+    number-requires-5
+    cast-t20
     returns
     returns-2
     returns-3
     returns-4
     returns-5
     returns-6
-    returns-7)
+    returns-7
+    returns-8)

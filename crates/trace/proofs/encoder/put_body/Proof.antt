@@ -4,7 +4,7 @@ use mathlib.Core.Path.{sym}
 use mathlib.Core.List.{append-nil}
 use native.Mathlib.Omega.{arith}
 use Rattle.rules.specs.Trace.{layout, fieldsOf, bodyOf}
-use Rattle.rules.specs.declared.trace.Record.the-variants.{Node}
+use Rattle.rules.specs.declared.trace.Record.the-variants.{Node, Weight}
 use Rattle.trace.proofs.Laid.{laid-none, body-laid}
 use borrow.Author.Needs.{needs}
 use Rattle.trace.proofs.encoder.put_body.Statement.{statement}
@@ -71,6 +71,26 @@ put-requires-5 : tie.Need-put-requires-5
 unfolding layout
 put-requires-5 c κs = let told = c .before .before in omega (arith, rw (told .r6 .given .1) at (told .before .before .before .pre))
 
+enum-known-r-7 : tie.Need-enum-known-r-7
+enum-known-r-7 c = search needs
+
+cast-put-4 : tie.Need-cast-put-4
+cast-put-4 c = search needs
+
+put-requires-6 : tie.Need-put-requires-6
+unfolding layout
+put-requires-6 c κs = let told = c .before .before in omega (arith, rw (told .r7 .given .1) at (told .before .before .before .pre))
+
+cast-put-5 : tie.Need-cast-put-5
+cast-put-5 c = search needs
+
+put-requires-7 : tie.Need-put-requires-7
+unfolding layout
+put-requires-7 c κs =
+    let first = c .before .before .before in
+    let told = first .before .before .before in
+    omega (arith, rw (told .r7 .given .1) at (told .before .before .before .pre))
+
 same-length : tie.Need-same-length
 same-length c = search needs
 
@@ -122,6 +142,18 @@ returns-7 : tie.Need-returns-7
 unfolding layout fieldsOf bodyOf
 returns-7 c = let put = c .before .before in rw (put .before .before .before .r6 .given .1, append-nil) (put .put5 .ensures)
 
+same-length-7 : tie.Need-same-length-7
+same-length-7 c = search needs
+
+returns-8 : tie.Need-returns-8
+unfolding layout fieldsOf
+returns-8 c =
+    let first = c .before .before .before .before .before .before in
+    let known = first .before .before .before in
+    let start = known .before .before .before in
+    rw (known .r7 .given .1, c .before .before .put7 .ensures, first .put6 .ensures)
+    (body-laid (layout 8) (fieldsOf (Weight (known .r7 .given .0 .0) (known .r7 .given .0 .1 .0))) 1 (start .args .lent .now) (rw (known .r7 .given .1) at (start .pre)))
+
 pub put-body-spec : {M : Type 1} → statement M
 put-body-spec =
     tie.close
@@ -143,6 +175,11 @@ put-body-spec =
     enum-known-r-6
     cast-put-3
     put-requires-5
+    enum-known-r-7
+    cast-put-4
+    put-requires-6
+    cast-put-5
+    put-requires-7
     same-length
     returns
     same-length-2
@@ -155,4 +192,6 @@ put-body-spec =
     returns-5
     returns-6
     same-length-6
-    returns-7)
+    returns-7
+    same-length-7
+    returns-8)

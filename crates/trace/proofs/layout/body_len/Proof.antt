@@ -1,9 +1,7 @@
 -- `trace::layout::body_len` meets its contract: each length is the sum of its layout's widths.
 -- Assumes nothing.
-use mathlib.Core.Path.{_≡_}
-use native.Mathlib.Omega.{arith}
 use Rattle.rules.specs.Trace.{layout}
-use Rattle.trace.proofs.Fields.{kind-within}
+use Rattle.trace.proofs.Fields.{last-kind}
 use Rattle.trace.proofs.layout.body_len.Statement.{statement}
 use Rattle.trace.proofs.layout.body_len.Tie as tie
 
@@ -33,10 +31,12 @@ returns-6 c = rw (c .match .keys6)
 
 returns-7 : tie.Need-returns-7
 unfolding layout
-returns-7 c =
-    let seventh : c .before .args .kind ≡ 7 = omega (arith, kind-within (c .before .args .kind) (c .before .pre)) in
-    rw seventh
+returns-7 c = rw (c .match .keys7)
+
+returns-8 : tie.Need-returns-8
+unfolding layout
+returns-8 c = rw (last-kind (c .before .args .kind) (c .before .pre) (c .match .rest))
 
 pub body-len-spec : {M : Type 1} → statement M
 body-len-spec =
-    tie.close (tie.spec returns returns-2 returns-3 returns-4 returns-5 returns-6 returns-7)
+    tie.close (tie.spec returns returns-2 returns-3 returns-4 returns-5 returns-6 returns-7 returns-8)
