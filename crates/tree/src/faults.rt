@@ -30,7 +30,7 @@ fn level_of(parents: &[u8; 64], node: usize) -> usize
     level_of(parents, parent) + 1
 }
 
-fn weight_in_range(weight: u16) -> bool
+pub(crate) fn weight_in_range(weight: u16) -> bool
     ensures { λ r. ⌜ r ≡ weightInRange weight ⌝ }
 {
     if weight < WEIGHT_LEAST {

@@ -11,6 +11,7 @@ use rules::tree::Tree;
 pub mod faults;
 pub mod nodes;
 pub mod shares;
+pub mod weights;
 
 fn wide(parent: u8) -> usize
     ensures { λ r. ⌜ r ≡ parent ⌝ }
