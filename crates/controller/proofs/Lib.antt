@@ -1,3 +1,4 @@
 pub mod Begin
 pub mod Vrates
 pub mod Anew
+pub mod Weighing

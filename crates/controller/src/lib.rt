@@ -2,3 +2,4 @@
 // stand above this crate, each in a crate of its own; one leaf's books are the matter of the crate `leaf`.
 pub mod shares;
 pub mod start;
+pub mod weights;
