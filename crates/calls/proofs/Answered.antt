@@ -11,7 +11,7 @@ use Rattle.rules.specs.Refusals.{firstOf, tickChecks}
 use Rattle.rules.specs.Tick.{growth, releases, lentAfter}
 use Rattle.rules.specs.Replay.{refusalLine, answerLine, releaseLines, tickLines, planLines, verdictLines, allRoom, shareLinesOf}
 use Rattle.rules.specs.Chunks.{callOf, calling}
-use Rattle.rules.specs.Entries.{submitted, ticked, tickedBy, lentBy, lentOf, planned, toVrate, setBy}
+use Rattle.rules.specs.Entries.{submitted, ticked, tickedBy, lentBy, lentOf, planned, setBy}
 use Rattle.rules.specs.Invariant.{Sound}
 use Rattle.rules.specs.Buffers.{Written}
 use Rattle.rules.specs.Laws.Lines.{share-lines}
@@ -28,12 +28,13 @@ use Rattle.rules.specs.declared.refusals.Verdict.the-variants.{Accepted, Refuse
 use Rattle.rules.specs.declared.refusals.Count.{Count}
 use Rattle.rules.specs.declared.refusals.Count.the-variants.{Released, Refused as Unticked}
 use Rattle.rules.specs.declared.trace.Record.{Record}
-use Rattle.rules.specs.declared.trace.Record.the-variants.{Bio as BioOf, Tick, Vrate}
+use Rattle.rules.specs.declared.trace.Record.the-variants.{Bio as BioOf, Tick, Vrate, Weight}
 use Rattle.rules.specs.declared.trace.Read.{Read}
 use Rattle.rules.specs.declared.trace.Read.the-variants.{Found}
 use Rattle.rules.specs.declared.replay.Call.{Call}
 use Rattle.rules.specs.declared.replay.Call.the-variants.{Bio as CallBio, Tick as CallTick, Plan as CallPlan, Set as CallSet}
 use Rattle.rules.specs.declared.replay.Setting.{Setting}
+use Rattle.rules.specs.declared.replay.Setting.the-variants.{Vrate as SetVrate, Weight as SetWeight}
 use Rattle.calls.specs.Calls.{CanPrint, planLinesOf}
 
 -- ---- an accepted tick releases no more than the lent buffer has places
@@ -66,9 +67,13 @@ module _ {read : Read} {r : Record} {next : ℕ} (e : read ≡ Found r next) whe
   unfolding callOf
   asks-tick time f = rw (e, f)
 
-  pub asks-vrate : (v : ℕ) → r ≡ Vrate v → CallSet (toVrate v) ≡ callOf read
+  pub asks-vrate : (v : ℕ) → r ≡ Vrate v → CallSet (SetVrate v) ≡ callOf read
   unfolding callOf
   asks-vrate v f = rw (e, f)
+
+  pub asks-weight : (n w : ℕ) → r ≡ Weight n w → CallSet (SetWeight n w) ≡ callOf read
+  unfolding callOf
+  asks-weight n w f = rw (e, f)
 
 -- ---- the lines of each answer
 pub room-for : {answer : Count} {n places : ℕ} → answer ≡ Released n → CanPrint answer places → (n ≤ places) × (13 * n ≤ lineRoom)

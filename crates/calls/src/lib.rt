@@ -1,4 +1,4 @@
-// The records after start: a bio, a tick, a plan, a vrate. Each is one call on the controller and the lines of its
+// The records after start: a bio, a tick, a plan, a vrate, a weight. Each is one call on the controller and the lines of its
 // answer; a refused one changes nothing, and the replay goes on. The state goes from call to call in one function,
 // since each function that it is handed through copies it.
 ghost use mathlib.Core.Path.{_≡_};
@@ -32,6 +32,7 @@ use submit::Queueing;
 use submit::Shares;
 use submit::seen;
 use tick::clock;
+use tree::weights;
 
 const WAITING_MOST: usize = 504;
 
@@ -56,7 +57,8 @@ fn call_of(read: Read) -> Call
             Record::Bio(bio) => Call::Bio(bio),
             Record::Tick(time) => Call::Tick(time),
             Record::Plan => Call::Plan,
-            Record::Vrate(v) => Call::Set(Setting { vrate: v }),
+            Record::Vrate(v) => Call::Set(Setting::Vrate(v)),
+            Record::Weight(node, weight) => Call::Set(Setting::Weight(node, weight)),
         },
         Read::End => Call::None,
         Read::Refused(_) => Call::None,
@@ -268,11 +270,32 @@ pub fn run(mut c: Controller, trace: &[u8], place: usize, most: usize, out: &mut
                 count += put_planned(answer, c.active, &c.shares, &mut out[count..]);
             }
             Call::Set(setting) => {
-                let answer = vrate_verdict(setting.vrate);
-                if let Verdict::Accepted = answer {
-                    let clock = c.clock;
-                    let paced = with_rate(clock, setting.vrate);
-                    c.clock = paced;
+                let mut answer = Verdict::Accepted;
+                match setting {
+                    Setting::Vrate(v) => {
+                        answer = vrate_verdict(v);
+                        if let Verdict::Accepted = answer {
+                            let clock = c.clock;
+                            let paced = with_rate(clock, v);
+                            c.clock = paced;
+                        }
+                    }
+                    Setting::Weight(node, weight) => {
+                        // The tree moves, and with it the shares of all; their rows follow, as in `weight`.
+                        let tree = c.tree;
+                        answer = weights::verdict(tree, node, weight);
+                        if let Verdict::Accepted = answer {
+                            let next = weights::with_weight(tree, node, weight);
+                            let rows = c.rows;
+                            let anew = base_anew(next, c.active, rows, &c.shares);
+                            let shares = anew.shares;
+                            let rows = anew.rows;
+                            c.tree = next;
+                            c.donors = 0;
+                            c.shares = shares;
+                            c.rows = rows;
+                        }
+                    }
                 }
                 count += lines::put_verdict(answer, &mut out[count..]);
             }

@@ -35,7 +35,7 @@ use Rattle.rules.specs.declared.refusals.Pricing.{Pricing}
 use Rattle.rules.specs.declared.refusals.Pricing.the-variants.{Priced as PricedAs, Refused as Unpriced}
 use Rattle.rules.specs.declared.trace.Record.{Record}
 use Rattle.rules.proofs.trace.Record.{the-type}
-use Rattle.rules.specs.declared.trace.Record.the-variants.{Node, Model as ModelOf, Start, Bio as BioOf, Tick, Plan, Vrate}
+use Rattle.rules.specs.declared.trace.Record.the-variants.{Node, Model as ModelOf, Start, Bio as BioOf, Tick, Plan, Vrate, Weight}
 use Rattle.rules.specs.declared.trace.Read.{Read}
 use Rattle.rules.specs.declared.trace.Read.the-variants.{Found, End, Refused as Unread}
 use Rattle.rules.specs.declared.replay.Phase.{Phase}
@@ -148,6 +148,7 @@ setup-only {read} {r} {next} p f e t h = go r (rw f at h) (sym e ∙ t)
     go (Tick time) h e = absurd (never-before-start 5 refl refl p e h)
     go Plan h e = absurd (never-before-start 6 refl refl p e h)
     go (Vrate v) h e = absurd (never-before-start 7 refl refl p e h)
+    go (Weight n w) h e = absurd (never-before-start 8 refl refl p e h)
 
 -- the arm for the rest has the calls' variants, from the fourth on
 kind-is : (r : Record) → kindOf r ≡ suc (tagOf the-type r)
@@ -158,14 +159,16 @@ kind-is (BioOf b) = refl
 kind-is (Tick time) = refl
 kind-is Plan = refl
 kind-is (Vrate v) = refl
+kind-is (Weight n w) = refl
 
-late : {k : ℕ} → OneOf (3 ∷ 4 ∷ 5 ∷ 6 ∷ []) k → 3 ≤ k
+late : {k : ℕ} → OneOf (3 ∷ 4 ∷ 5 ∷ 6 ∷ 7 ∷ []) k → 3 ≤ k
 late (inl e) = omega arith
 late (inr (inl e)) = omega arith
 late (inr (inr (inl e))) = omega arith
-late (inr (inr (inr e))) = omega arith
+late (inr (inr (inr (inl e)))) = omega arith
+late (inr (inr (inr (inr e)))) = omega arith
 
-pub no-call : (r : Record) → kindOf r < 4 → OneOf (3 ∷ 4 ∷ 5 ∷ 6 ∷ []) (tagOf the-type r) → ⊥
+pub no-call : (r : Record) → kindOf r < 4 → OneOf (3 ∷ 4 ∷ 5 ∷ 6 ∷ 7 ∷ []) (tagOf the-type r) → ⊥
 no-call r early rest = omega (arith, kind-is r, late rest)
 
 -- ---- a call in its phase is run, alone

@@ -2,7 +2,7 @@
 -- Assumes nothing.
 use borrow.Author.Needs.{needs}
 use Rattle.rules.specs.Chunks.{callOf}
-use Rattle.calls.proofs.Answered.{asks-bio, asks-tick, asks-vrate}
+use Rattle.calls.proofs.Answered.{asks-bio, asks-tick, asks-vrate, asks-weight}
 use Rattle.calls.proofs.call_of.Statement.{statement}
 use Rattle.calls.proofs.call_of.Tie as tie
 
@@ -29,6 +29,9 @@ enum-told-4 c = search needs
 
 enum-known-r-3 : tie.Need-enum-known-r-3
 enum-known-r-3 c = search needs
+
+enum-known-r-4 : tie.Need-enum-known-r-4
+enum-known-r-4 c = search needs
 
 enum-told-5 : tie.Need-enum-told-5
 enum-told-5 c = search needs
@@ -62,12 +65,15 @@ returns-7 : tie.Need-returns-7
 returns-7 c = asks-vrate (c .before .before .before .before .read .given .1) _ (c .before .r3 .given .1)
 
 returns-8 : tie.Need-returns-8
-unfolding callOf
-returns-8 c = search needs
+returns-8 c = asks-weight (c .before .before .before .before .read .given .1) _ _ (c .before .r4 .given .1)
 
 returns-9 : tie.Need-returns-9
 unfolding callOf
 returns-9 c = search needs
+
+returns-10 : tie.Need-returns-10
+unfolding callOf
+returns-10 c = search needs
 
 pub call-of-spec : {M : Type 1} → statement M
 call-of-spec =
@@ -81,6 +87,7 @@ call-of-spec =
     enum-known-r-2
     enum-told-4
     enum-known-r-3
+    enum-known-r-4
     enum-told-5
     enum-told-6
     returns
@@ -91,4 +98,5 @@ call-of-spec =
     returns-6
     returns-7
     returns-8
-    returns-9)
+    returns-9
+    returns-10)

@@ -166,9 +166,16 @@ run-spec =
     plan.loop-less-3
     plan.loop-again-3
     (λ c. search needs)
+    (λ c. search needs)
     (λ c κs. search needs)
     (λ c. search needs)
     (λ c κs. search needs)
+    (λ c. search needs)
+    (λ c. search needs)
+    set.verdict-requires-2
+    (λ c. search needs)
+    set.with-weight-requires
+    set.base-anew-requires-3
     (λ c. search needs)
     set.sub-put-verdict
     set.part-put-verdict-start
