@@ -163,14 +163,14 @@ fi
 
 # ---- bad lines
 printf 'plan\n# a comment\nplans\n' >bad.text
-reason="unknown word 'plans': a line begins with node, model, start, bio, tick, plan, vrate or raw"
+reason="unknown word 'plans': a line begins with node, model, start, bio, tick, plan, vrate, weight or raw"
 run bytes bad.text
 is "a bad line of a file" only_said 1 "trace: bad.text: line 3: $reason"
 run bytes <bad.text
 is "a bad line of standard input" only_said 1 "trace: standard input: line 3: $reason"
 run bytes < <(printf 'plan\n\033[2J\n')
 is "a bad word that would steer a terminal" only_said 1 \
-    "trace: standard input: line 2: unknown word '?[2J': a line begins with node, model, start, bio, tick, plan, vrate or raw"
+    "trace: standard input: line 2: unknown word '?[2J': a line begins with node, model, start, bio, tick, plan, vrate, weight or raw"
 run bytes < <(printf 'tick %.0s' 1; printf '7%.0s' {1..300})
 is "a long bad word is said in part" only_said 1 \
     "trace: standard input: line 1: time: $(printf '7%.0s' {1..40}).. is too large, at most 18446744073709551615"

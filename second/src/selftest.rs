@@ -40,7 +40,7 @@ impl Checks {
 }
 
 /// Fewer checks are no test: a loop over nothing is no success.
-const LEAST: u64 = 755;
+const LEAST: u64 = 827;
 
 /// A group of checks; a refusal ends it where none belongs.
 type Group = fn(&mut Checks) -> Result<(), Refusal>;
@@ -393,7 +393,7 @@ fn release_buffer(checks: &mut Checks) -> Result<(), Refusal> {
 }
 
 /// One record of each kind, its numbers at their widest.
-fn widest_records() -> [Record; 7] {
+fn widest_records() -> [Record; 8] {
     let most = u64::MAX;
     [
         Record::Node {
@@ -419,11 +419,15 @@ fn widest_records() -> [Record; 7] {
         Record::Tick { time: most },
         Record::Plan,
         Record::Vrate { vrate: u16::MAX },
+        Record::Weight {
+            node: 255,
+            weight: u16::MAX - 1,
+        },
     ]
 }
 
 fn record_buffer(checks: &mut Checks) -> Result<(), Refusal> {
-    for (record, wanted) in widest_records().iter().zip([4, 49, 9, 19, 9, 1, 3]) {
+    for (record, wanted) in widest_records().iter().zip([4, 49, 9, 19, 9, 1, 3, 4]) {
         let name = record.to_string();
         let mut buffer = [0xa5; LONGEST + 1];
         let short = encode(record, &mut buffer[..wanted - 1]);
@@ -458,7 +462,7 @@ fn text_refusals(checks: &mut Checks) -> Result<(), Refusal> {
         (
             b"plan\nplans",
             "line 2: unknown word 'plans': a line begins with \
-             node, model, start, bio, tick, plan, vrate or raw",
+             node, model, start, bio, tick, plan, vrate, weight or raw",
         ),
         (
             b"\n# x\nvrate",
@@ -549,20 +553,28 @@ fn generated_trace(checks: &mut Checks, seed: u64, style: Style) -> io::Result<(
 
 /// The audit of demand 3 can fail: it notices these changed rules.
 fn noticed_faults(checks: &mut Checks) -> io::Result<()> {
+    let spent = "more spent than virtual time";
+    let sums = "shares do not sum to the base shares";
+    let below = "a non-donor below its base share";
+    let costs = "a leaf's costs do not add up";
+    let changed = "a refused call changed the state";
     let faults = [
-        (Mutant::BudgetKeptAtRise, "more spent than virtual time"),
-        (
-            Mutant::RemainderLost,
-            "shares do not sum to the base shares",
-        ),
-        (Mutant::SumOfAllChildren, "a non-donor below its base share"),
-        (Mutant::RefusedMovesEnd, "a refused call changed the state"),
+        (Mutant::BudgetKeptAtRise, Style::Long, spent),
+        (Mutant::RemainderLost, Style::Long, sums),
+        (Mutant::SumOfAllChildren, Style::Long, below),
+        (Mutant::RefusedMovesEnd, Style::Long, changed),
+        (Mutant::WeightMovesNoShare, Style::Weights, below),
+        (Mutant::WeightKeepsDonation, Style::Weights, below),
+        (Mutant::WeightTakesDebts, Style::Weights, costs),
+        (Mutant::WeightTakesWaiters, Style::Weights, costs),
+        (Mutant::RefusedWeightEnds, Style::Weights, changed),
+        (Mutant::RefusedWeightStays, Style::Weights, changed),
     ];
-    for (mutant, fault) in faults {
+    for (mutant, style, fault) in faults {
         let mut noticed = false;
         for seed in 0..20 {
             let mut trace = Vec::new();
-            generate(seed, Style::Long.usual_records(), Style::Long, &mut trace)?;
+            generate(seed, style.usual_records(), style, &mut trace)?;
             noticed = noticed || audit(&trace, Rules::with(mutant)) == Some(fault);
         }
         checks.equal(mutant.name(), noticed, true);

@@ -12,6 +12,7 @@ use crate::generator::damage::{repeat_behind_setup, scatter};
 use crate::generator::generate::generate;
 use crate::generator::random::Random;
 use crate::generator::style::Style;
+use crate::trace::record::LAST;
 
 /// A program that takes longer than this for the longest trace hangs.
 const PATIENCE: Duration = Duration::from_secs(300);
@@ -95,7 +96,7 @@ impl Damage {
 fn long_trace(length: u64, seed: u64) -> io::Result<Vec<u8>> {
     let mut trace = Vec::new();
     // A record takes 7 bytes at the very least on the average.
-    generate(seed, length / 7, Style::Long, &mut trace)?;
+    generate(seed, length / 7, Style::Weights, &mut trace)?;
     trace.truncate(length as usize);
     Ok(trace)
 }
@@ -120,7 +121,10 @@ fn all_damage(small: &[u8], random: &mut Random) -> Vec<Damage> {
     }
     for (place, &byte) in small.iter().enumerate() {
         all.push(Damage::Changed(place, byte ^ 1 << random.below(8)));
-        all.push(Damage::Changed(place, random.below(9) as u8));
+        all.push(Damage::Changed(
+            place,
+            random.below(u64::from(LAST) + 2) as u8,
+        ));
         all.push(Damage::Changed(place, random.number() as u8));
     }
     all

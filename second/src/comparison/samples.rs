@@ -9,7 +9,8 @@ use crate::generator::style::Style;
 /// mistakes apart come first. Setup faults come one to a trace, so short
 /// traces are the most numerous.
 const TRACES: &[(Style, u64, u64)] = &[
-    (Style::Long, 50, 10_000),
+    (Style::Weights, 25, 10_000),
+    (Style::Long, 25, 10_000),
     (Style::Deep, 8, 12_000),
     (Style::Full, 8, 12_000),
     (Style::Idle, 8, 12_000),

@@ -1,4 +1,5 @@
-//! The numbered refusals of document 01.
+//! The numbered refusals of document 01, and of document 02 as far as it is
+//! built.
 
 #[derive(Clone, Copy, Debug, PartialEq, Eq)]
 pub enum Refusal {
@@ -20,11 +21,13 @@ pub enum Refusal {
     UnknownKind = 16,
     CutRecord = 17,
     WrongPhase = 18,
+    /// The root and absent nodes have no weight to set.
+    NoWeight = 19,
     RecordBufferShort = 28,
 }
 
 impl Refusal {
-    pub const ALL: [Refusal; 19] = [
+    pub const ALL: [Refusal; 20] = [
         Refusal::Tree,
         Refusal::Thin,
         Refusal::Rate,
@@ -43,10 +46,11 @@ impl Refusal {
         Refusal::UnknownKind,
         Refusal::CutRecord,
         Refusal::WrongPhase,
+        Refusal::NoWeight,
         Refusal::RecordBufferShort,
     ];
 
-    /// The number document 01 gives it.
+    /// The number the documents give it.
     pub fn number(self) -> u8 {
         self as u8
     }

@@ -1,4 +1,4 @@
-//! The rules in force: document 01's, or those with one single rule changed.
+//! The rules in force: the documents', or those with one single rule changed.
 //!
 //! A changed rule makes a mutant. Its replay is compared with the true one to
 //! show that a set of traces would notice that very mistake.
@@ -154,6 +154,45 @@ named_list! {
         RemainderToLast = "remainder of a donation given to the highest-numbered",
         RemainderToDonor = "remainder of a donation given to the lowest-numbered donor",
         RemainderToFirst = "remainder of a donation given to the lowest-numbered active leaf",
+        // Weights that change
+        WeightKeepsDonation = "a donation stands after a weight",
+        EqualWeightIgnored = "a weight equal to the old one ends no donation",
+        UnmovedKeepsDonation = "a weight that moves no base share ends no donation",
+        WeightOfInnerIgnored = "the weight of an inner node ignored",
+        WeightOfInactiveIgnored = "the weight of an inactive leaf ignored",
+        WeightsOneByOne = "a weight undoes those before it",
+        WeightMovesNoShare = "a weight moves no share before the next plan or activation",
+        ActivationBySetup = "an activation goes by the weights of setup",
+        EndBySetup = "the end of a donation goes by the weights of setup",
+        PlanBySetup = "a plan goes by the weights of setup",
+        BudgetKeptAtWeight = "budget kept when a share rises at a weight",
+        BudgetOfOthersKept = "budget of other leaves than the named kept when a share rises at a weight",
+        WeightFromBase = "a weight's budgets are scaled from the base share, not the one held",
+        WeightThroughBase = "a weight's budgets go through the base shares before it",
+        WeightTakesBudgets = "a weight takes the budgets",
+        WeightTakesDebts = "a weight takes the debts",
+        WeightTakesWaiters = "a weight takes the waiting bios",
+        WeightTakesUsages = "a weight starts usages at 0",
+        WeightTakesAccepted = "a weight forgets which leaves had a bio accepted",
+        WeightTakesEnds = "a weight takes the ends of the last bios",
+        WeightTakesPeriod = "a weight starts E at 0",
+        WeightTakesTime = "a weight sets the time back to 0",
+        WeightTakesVrate = "a weight sets vrate back to 100",
+        WeightTicks = "a weight does what a tick with no elapsed time does",
+        RootWeight = "a weight of the root accepted",
+        AbsentWeight = "a weight of the first absent node accepted",
+        LastNodeWeight = "refusal 19 for the last node",
+        InnerWeight = "refusal 19 for an inner node",
+        InactiveWeight = "refusal 19 for an inactive leaf",
+        NewWeightZero = "a new weight of 0 accepted",
+        NewWeightOneLess = "refusal 1 at a new weight of exactly 10,000",
+        NewWeightOneMore = "a new weight of 10,001 accepted",
+        NewThinAccepted = "a weight that makes the tree thin accepted",
+        NewThinOfActive = "thin judged over the active leaves at a weight",
+        NewThinOfNamed = "thin judged over the leaves of the named node at a weight",
+        NewThinOfOldTree = "thin judged on the tree before the weight",
+        RefusedWeightEnds = "a refused weight ends a donation",
+        RefusedWeightStays = "a weight refused for a thin tree stays in the tree",
         // Refusals
         RangeBeforeLeaf = "5 looked for before 4",
         QueueBeforeCost = "7 looked for before 6",
@@ -176,15 +215,22 @@ named_list! {
         VrateOneLess = "refusal 15 at exactly 400",
         VrateOneMore = "a vrate of 401 accepted",
         RefusedVrateHolds = "a refused vrate holds",
+        WeightBeforeNode = "1 looked for before 19",
+        ThinBeforeWeight = "2 looked for before 1 at a weight",
         // Trace records
         SecondModel = "a second model takes the place of the first",
         SecondStart = "a second start starts anew",
         RatesBeforePhase = "3 looked for before 18",
         TreeBeforePhase = "1 looked for before 18",
         PhaseBeforeCut = "18 looked for before 17",
+        NodeBeforePhase = "19 looked for before 18",
+        WeightInSetup = "a weight before start accepted",
         SetupGoesOn = "a refusal in setup does not stop the replay",
         PhaseGoesOn = "18 after start does not stop the replay",
         RefusalStops = "any refusal stops the replay",
+        NodeStops = "19 stops the replay",
+        TreeStops = "1 or 2 at a weight stops the replay",
+        WeightPrints = "a weight prints the shares as a plan does",
         LinesOfInactive = "a plan prints a line for inactive leaves too",
         FallingLines = "a plan's lines come by falling number",
     }
@@ -196,7 +242,7 @@ pub struct Rules {
 }
 
 impl Rules {
-    /// The rules of document 01.
+    /// The rules of document 01 and of the requests of document 02 that are built.
     pub const TRUE: Rules = Rules { mutant: None };
 
     pub fn with(mutant: Mutant) -> Rules {

@@ -14,6 +14,32 @@ pub const SHARE_FLOOR: u64 = 1_024;
 /// Shares by node number; only those of active nodes have a meaning.
 pub type Shares = [u64; MAX_NODES];
 
+/// The mutants under which 0, not 10,000 and also 10,001 is a weight.
+struct WeightMutants {
+    zero: Mutant,
+    one_less: Mutant,
+    one_more: Mutant,
+}
+
+const NODE_RECORD: WeightMutants = WeightMutants {
+    zero: Mutant::WeightZero,
+    one_less: Mutant::WeightOneLess,
+    one_more: Mutant::WeightOneMore,
+};
+
+const WEIGHT_RECORD: WeightMutants = WeightMutants {
+    zero: Mutant::NewWeightZero,
+    one_less: Mutant::NewWeightOneLess,
+    one_more: Mutant::NewWeightOneMore,
+};
+
+/// Whether a weight is one that a node may have.
+fn in_range(weight: u16, of: &WeightMutants, rules: Rules) -> bool {
+    let lightest = u64::from(!rules.changed(of.zero));
+    let heaviest = rules.limit(of.one_less, of.one_more, u64::from(MAX_WEIGHT));
+    (lightest..=heaviest).contains(&u64::from(weight))
+}
+
 #[derive(Clone, Debug, PartialEq, Eq)]
 pub struct Tree {
     count: usize,
@@ -53,13 +79,7 @@ impl Tree {
     pub fn add(&mut self, parent: u8, weight: u16, rules: Rules) -> Result<(), Refusal> {
         let node = self.count;
         let parent = usize::from(parent);
-        let weight = u64::from(weight);
-        let lightest = u64::from(!rules.changed(Mutant::WeightZero));
-        let heaviest = rules.limit(
-            Mutant::WeightOneLess,
-            Mutant::WeightOneMore,
-            u64::from(MAX_WEIGHT),
-        );
+        let good_weight = in_range(weight, &NODE_RECORD, rules);
         let room = MAX_NODES - usize::from(rules.changed(Mutant::NodesOneLess));
         let deepest = rules.limit(
             Mutant::LevelOneLess,
@@ -68,18 +88,53 @@ impl Tree {
         );
         if node >= room
             || parent >= node
-            || !(lightest..=heaviest).contains(&weight)
+            || !good_weight
             || u64::from(self.levels[parent]) >= deepest
         {
             return Err(Refusal::Tree);
         }
         self.parents[node] = parent;
-        self.weights[node] = weight;
+        self.weights[node] = u64::from(weight);
         self.levels[node] = self.levels[parent] + 1;
         // A parent stops being a leaf; the root never was one.
         self.leaves = self.leaves & !(1 << parent) | 1 << node;
         self.count += 1;
         Ok(())
+    }
+
+    /// Refusal 1 for the weight of a weight record.
+    pub fn check_weight(weight: u16, rules: Rules) -> Result<(), Refusal> {
+        if in_range(weight, &WEIGHT_RECORD, rules) {
+            Ok(())
+        } else {
+            Err(Refusal::Tree)
+        }
+    }
+
+    /// The same tree with another weight of one node. Only a mutant asks for
+    /// a node that is not there.
+    pub fn with_weight(&self, node: usize, weight: u16) -> Tree {
+        let mut tree = self.clone();
+        if let Some(place) = tree.weights.get_mut(node) {
+            *place = u64::from(weight);
+        }
+        tree
+    }
+
+    /// The weight of a node; the root has none.
+    pub fn weight(&self, node: usize) -> u16 {
+        self.weights[node] as u16
+    }
+
+    /// The leaves that a node is or has below it.
+    pub fn leaves_of(&self, node: usize) -> u64 {
+        let mut below = 1 << node;
+        for other in node + 1..self.count {
+            if is_member(below, self.parents[other]) {
+                below |= 1 << other;
+            }
+        }
+        below & self.leaves
     }
 
     /// Refusals 1 for too few nodes and 2 for a thin tree.
@@ -101,10 +156,13 @@ impl Tree {
 
     /// The smallest share of a leaf with all leaves active.
     pub fn smallest_share(&self, rules: Rules) -> u64 {
-        let shares = self.base_shares(self.leaves, rules);
-        members(self.leaves)
-            .map(|leaf| shares[leaf])
-            .fold(WHOLE, u64::min)
+        self.smallest_of(self.leaves, self.leaves, rules)
+    }
+
+    /// The smallest share of some leaves with a set of leaves active.
+    pub fn smallest_of(&self, some: u64, active: u64, rules: Rules) -> u64 {
+        let shares = self.base_shares(active, rules);
+        members(some).map(|leaf| shares[leaf]).fold(WHOLE, u64::min)
     }
 
     /// The base shares for a set of active leaves. A parent has a smaller
@@ -130,7 +188,8 @@ impl Tree {
             } else {
                 shares[parent]
             };
-            let (weight, sum) = (self.weights[node], sums[parent]);
+            // Only a mutant's weights sum to 0.
+            let (weight, sum) = (self.weights[node], sums[parent].max(1));
             shares[node] = rules.floor(Mutant::ShareRoundedUp, divided, weight, sum);
         }
         shares

@@ -3,13 +3,13 @@
 use crate::engine::cost::Bio;
 use crate::generator::random::Random;
 use crate::generator::setup::BENCH;
-use crate::trace::record::{decode, encode, record_length, Record, LONGEST, START, VRATE};
+use crate::trace::record::{decode, encode, record_length, Record, LAST, LONGEST, START};
 
 /// Damages a trace that was good up to its last record.
 pub fn damage(trace: &mut Vec<u8>, random: &mut Random) {
     let place = random.below(trace.len() as u64) as usize;
     match random.below(9) {
-        0 => cut_record(trace, random, START + 1, VRATE),
+        0 => cut_record(trace, random, START + 1, LAST),
         1 => add_unknown_kind(trace, random),
         2 => add_setup_record(trace, random),
         3 => cut_record(trace, random, 1, START),
@@ -37,7 +37,7 @@ pub fn noise(trace: &mut [u8], random: &mut Random) {
     // Half of the bytes are kinds, so that noise is not refused at once.
     for byte in &mut trace[first as usize..last as usize] {
         *byte = match random.below(2) {
-            0 => random.between(u64::from(START) + 1, u64::from(VRATE)) as u8,
+            0 => random.between(u64::from(START) + 1, u64::from(LAST)) as u8,
             _ => random.number() as u8,
         };
     }
@@ -54,7 +54,7 @@ pub fn scatter(trace: &mut [u8], random: &mut Random) {
 
 /// Puts one byte value, most likely a kind, everywhere behind the setup.
 pub fn repeat_behind_setup(trace: &mut [u8], random: &mut Random) {
-    let byte = random.below(u64::from(VRATE) + 2) as u8;
+    let byte = random.below(u64::from(LAST) + 2) as u8;
     let first = setup_length(trace);
     trace[first..].iter_mut().for_each(|place| *place = byte);
 }
@@ -82,8 +82,8 @@ fn cut_record(trace: &mut Vec<u8>, random: &mut Random, least: u8, most: u8) {
 }
 
 fn add_unknown_kind(trace: &mut Vec<u8>, random: &mut Random) {
-    let any = random.between(u64::from(VRATE) + 1, 255) as u8;
-    trace.push(random.pick(&[0, VRATE + 1, 255, any]));
+    let any = random.between(u64::from(LAST) + 1, 255) as u8;
+    trace.push(random.pick(&[0, LAST + 1, 255, any]));
     for _ in 0..random.below(40) {
         trace.push(random.number() as u8);
     }
@@ -111,23 +111,26 @@ fn add(trace: &mut Vec<u8>, record: &Record) {
 fn replace_by_noise(trace: &mut Vec<u8>, random: &mut Random) {
     let length = random.below(60);
     *trace = (0..length)
-        .map(|_| random.below(u64::from(VRATE) + 2) as u8)
+        .map(|_| random.below(u64::from(LAST) + 2) as u8)
         .collect();
 }
 
 fn cut_run_record_in_setup(trace: &mut Vec<u8>, random: &mut Random) {
     trace.clear();
     add(trace, &Record::Model(BENCH));
-    add(
-        trace,
-        &Record::Bio(Bio {
-            node: 0,
-            flags: 0,
-            id: 0,
-            sector: 0,
-            bytes: 512,
-        }),
-    );
-    let missing = random.between(1, 18) as usize;
-    trace.truncate(trace.len() - missing);
+    let setup = trace.len();
+    let bio = Record::Bio(Bio {
+        node: 0,
+        flags: 0,
+        id: 0,
+        sector: 0,
+        bytes: 512,
+    });
+    let weight = Record::Weight {
+        node: 0,
+        weight: 100,
+    };
+    add(trace, &random.pick(&[bio, weight]));
+    let kept = random.between(1, (trace.len() - setup) as u64 - 1);
+    trace.truncate(setup + kept as usize);
 }

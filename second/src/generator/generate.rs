@@ -7,6 +7,7 @@ use crate::generator::damage::{damage, noise};
 use crate::generator::moves::debt::climb_to_debt_limit;
 use crate::generator::moves::load::{DEEP_MOVES, FEW_MOVES, FULL_MOVES, IDLE_MOVES};
 use crate::generator::moves::usual::{EDGE_MOVES, USUAL_MOVES};
+use crate::generator::moves::weight::WEIGHT_MOVES;
 use crate::generator::random::Random;
 use crate::generator::setup::{
     bad_setup, dearest_setup, deep_setup, few_setup, good_setup, wide_setup,
@@ -35,11 +36,14 @@ fn moves_of(style: Style, random: &mut Random) -> &'static [(u64, Move)] {
         Style::Idle => return IDLE_MOVES,
         Style::Full => return FULL_MOVES,
         Style::Short => 5,
-        Style::Long | Style::Valid => 16,
+        Style::Long | Style::Valid | Style::Weights => 16,
         Style::Damaged | Style::Noise => 10,
         Style::Edges => 2,
     };
-    if random.once_in(edges_once_in) {
+    // `long` is measured, and so stays as it is.
+    if style != Style::Long && random.once_in(8) {
+        WEIGHT_MOVES
+    } else if random.once_in(edges_once_in) {
         EDGE_MOVES
     } else {
         USUAL_MOVES

@@ -190,7 +190,7 @@ fn is_good(nodes: &[(u8, u16)]) -> bool {
         && tree.check(Rules::TRUE).is_ok()
 }
 
-fn any_weight(random: &mut Random) -> u16 {
+pub fn any_weight(random: &mut Random) -> u16 {
     match random.below(6) {
         0 => 1,
         1 => MAX_WEIGHT,
@@ -350,7 +350,7 @@ fn bad_rates(random: &mut Random) -> Vec<Record> {
 fn bad_order(random: &mut Random) -> Vec<Record> {
     let mut records = good_setup(random);
     let place = random.below(records.len() as u64) as usize;
-    match random.below(7) {
+    match random.below(8) {
         0 => records.retain(|record| !matches!(record, Record::Model(_))),
         1 => {
             let last = records.len() - 1;
@@ -360,8 +360,13 @@ fn bad_order(random: &mut Random) -> Vec<Record> {
         2 => records.insert(place, Record::Plan),
         3 => records.insert(place, Record::Vrate { vrate: 100 }),
         4 => records.insert(place, Record::Tick { time: 0 }),
+        5 => {
+            let node = random.pick(&[0, 1, 1, 2, 255]);
+            let weight = random.pick(&[0, 100, MAX_WEIGHT]);
+            records.insert(place, Record::Weight { node, weight });
+        }
         // No fault of a record: the trace ends before it starts.
-        5 => records.truncate(place),
+        6 => records.truncate(place),
         _ => records.clear(),
     }
     records

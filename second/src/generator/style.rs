@@ -12,6 +12,7 @@ named_list! {
         Idle = "idle",
         Full = "full",
         Noise = "noise",
+        Weights = "weights",
     }
 }
 
@@ -28,7 +29,8 @@ impl Style {
     pub fn usual_records(self) -> u64 {
         match self {
             Style::Short => 40,
-            Style::Long | Style::Deep | Style::Few | Style::Idle | Style::Full => 3_000,
+            Style::Deep | Style::Few | Style::Idle | Style::Full => 3_000,
+            Style::Long | Style::Weights => 3_000,
             Style::Valid => 500,
             Style::Damaged => 120,
             Style::Edges => 700,

@@ -8,7 +8,7 @@ use crate::engine::refusal::Refusal;
 use crate::engine::rules::Rules;
 use crate::observation::events::Event;
 use crate::observation::observe::observe;
-use crate::trace::record::START;
+use crate::trace::record::{START, WEIGHT};
 use crate::trace::replay::{Outcome, Replay};
 use crate::trace::stream::Stream;
 
@@ -122,6 +122,9 @@ impl Census {
 
     fn count_cut(&mut self, kind: Option<u8>, started: bool) {
         self.hit(Event::CutRecord);
+        if kind == Some(WEIGHT) {
+            self.hit(Event::CutWeight);
+        }
         let for_setup = kind.map_or(false, |kind| kind <= START);
         if for_setup == started {
             self.hit(Event::CutRecordOutOfPhase);

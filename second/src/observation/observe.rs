@@ -75,7 +75,11 @@ fn observe_setup(tree: &Tree, model: bool, record: &Record, outcome: Outcome, si
         Record::Model(_) if model => sink.when(true, Event::SecondModel),
         Record::Model(rates) => observe_rates(&rates, refused, sink),
         Record::Start { .. } => observe_start(tree, outcome, sink),
-        _ => sink.when(true, Event::RunRecordInSetup),
+        _ => {
+            sink.when(true, Event::RunRecordInSetup);
+            let weight = matches!(record, Record::Weight { .. });
+            sink.when(weight, Event::WeightInSetup);
+        }
     }
 }
 
@@ -176,7 +180,103 @@ fn observe_run(
             sink.when(*vrate == MAX_VRATE, Event::Vrate400);
             sink.when(*vrate == MAX_VRATE + 1, Event::Vrate401);
         }
+        (Record::Weight { node, weight }, Outcome::Refused(refusal)) => {
+            observe_refused_weight(before, usize::from(*node), *weight, refusal, sink)
+        }
+        (Record::Weight { node, weight }, _) => {
+            observe_weight(before, usize::from(*node), *weight, after, sink)
+        }
         _ => sink.when(true, Event::SetupRecordAfterStart),
+    }
+}
+
+fn observe_refused_weight(
+    before: &Controller,
+    node: usize,
+    weight: u16,
+    refusal: Refusal,
+    sink: &mut Sink,
+) {
+    let count = before.tree.count();
+    sink.when(before.donors != 0, Event::RefusedWeightLeavesDonation);
+    match refusal {
+        Refusal::NoWeight => {
+            sink.when(node == 0, Event::WeightOfRoot);
+            sink.when(node != 0, Event::WeightOfAbsentNode);
+            sink.when(node == count, Event::WeightOfFirstAbsentNode);
+            sink.when(node == 255, Event::WeightOfNode255);
+            let bad = !(1..=MAX_WEIGHT).contains(&weight);
+            sink.when(bad, Event::WeightNodeBeforeRange);
+        }
+        Refusal::Tree => {
+            sink.when(weight == 0, Event::NewWeight0);
+            sink.when(weight == MAX_WEIGHT + 1, Event::NewWeight10001);
+            sink.when(weight == u16::MAX, Event::NewWeight65535);
+            let tree = before.tree.with_weight(node, weight);
+            let thin = tree.check_thin(Rules::TRUE).is_err();
+            sink.when(thin, Event::WeightRangeBeforeThin);
+        }
+        _ => {
+            sink.when(true, Event::WeightMakesThin);
+            let tree = before.tree.with_weight(node, weight);
+            let smallest = |some| tree.smallest_of(some, tree.leaves(), Rules::TRUE);
+            let thinnest = smallest(tree.leaves());
+            sink.when(thinnest == SHARE_FLOOR - 1, Event::WeightMakes1023);
+            let named = tree.leaves_of(node);
+            sink.when(
+                smallest(named) >= SHARE_FLOOR,
+                Event::WeightMakesAnotherThin,
+            );
+            let active = tree.smallest_of(before.active, before.active, Rules::TRUE);
+            sink.when(active >= SHARE_FLOOR, Event::WeightMakesInactiveThin);
+        }
+    }
+}
+
+/// Events of an accepted weight.
+fn observe_weight(
+    before: &Controller,
+    node: usize,
+    weight: u16,
+    after: &Controller,
+    sink: &mut Sink,
+) {
+    let tree = &before.tree;
+    let leaf = is_member(tree.leaves(), node);
+    let active = is_member(before.active, node);
+    sink.when(!leaf, Event::WeightOfInnerNode);
+    sink.when(leaf && !active, Event::WeightOfInactiveLeaf);
+    sink.when(active, Event::WeightOfActiveLeaf);
+    sink.when(is_member(before.donors, node), Event::WeightOfDonor);
+    sink.when(node + 1 == tree.count(), Event::WeightOfLastNode);
+    sink.when(weight > tree.weight(node), Event::WeightRaised);
+    sink.when(weight < tree.weight(node), Event::WeightLowered);
+    sink.when(weight == 1, Event::NewWeight1);
+    sink.when(weight == MAX_WEIGHT, Event::NewWeight10000);
+    let thinnest = after.tree.smallest_share(Rules::TRUE);
+    sink.when(thinnest == SHARE_FLOOR, Event::WeightMakes1024);
+    sink.when(before.active == 0, Event::WeightWithoutActiveLeaf);
+    let ends = before.donors != 0;
+    sink.when(ends, Event::DonationEndedByWeight);
+    let equal = weight == tree.weight(node);
+    sink.when(equal, Event::WeightAsBefore);
+    sink.when(equal && ends, Event::DonationEndedByEqualWeight);
+    let unmoved = leaf && !active && !equal;
+    sink.when(unmoved && ends, Event::DonationEndedByInactiveWeight);
+    for number in members(before.active) {
+        let (old, new) = (&before.leaves[number], &after.leaves[number]);
+        let scaled = is_scaled(old, new);
+        sink.when(scaled, Event::WeightScalesBudget);
+        sink.when(scaled && number != node, Event::WeightScalesOthersBudget);
+        sink.when(
+            scaled && is_member(before.donors, number),
+            Event::WeightScalesDonorsBudget,
+        );
+        let falls = new.share < old.share && old.budget > Relative(0);
+        sink.when(falls, Event::WeightLowersShare);
+        sink.when(!old.queue.is_empty(), Event::WaiterHeldAcrossWeight);
+        sink.when(old.owes(), Event::DebtHeldAcrossWeight);
+        sink.when(old.usage > Absolute(0), Event::UsageHeldAcrossWeight);
     }
 }
 

@@ -88,6 +88,7 @@ fn fields(name: &str) -> Option<&'static [Field]> {
         ]),
         "plan" => Some(&[]),
         "vrate" => Some(&[("vrate", BYTES_2)]),
+        "weight" => Some(&[("node", BYTE), ("weight", BYTES_2)]),
         _ => None,
     }
 }
@@ -119,7 +120,7 @@ fn parse_number(word: &str, (name, most): Field) -> Result<u64, String> {
 
 fn parse_record(name: &str, words: SplitWhitespace) -> Result<Record, String> {
     let fields = fields(name).ok_or_else(|| {
-        let known = "node, model, start, bio, tick, plan, vrate or raw";
+        let known = "node, model, start, bio, tick, plan, vrate, weight or raw";
         format!(
             "unknown word '{}': a line begins with {}",
             shortened(name),
@@ -161,6 +162,10 @@ fn parse_record(name: &str, words: SplitWhitespace) -> Result<Record, String> {
         ("tick", &[time]) => Record::Tick { time },
         ("vrate", &[vrate]) => Record::Vrate {
             vrate: vrate as u16,
+        },
+        ("weight", &[node, weight]) => Record::Weight {
+            node: node as u8,
+            weight: weight as u16,
         },
         _ => Record::Plan,
     })

@@ -25,6 +25,7 @@ impl fmt::Display for Record {
             Record::Tick { time } => write!(f, "tick {}", time),
             Record::Plan => write!(f, "plan"),
             Record::Vrate { vrate } => write!(f, "vrate {}", vrate),
+            Record::Weight { node, weight } => write!(f, "weight {} {}", node, weight),
         }
     }
 }

@@ -13,6 +13,9 @@ pub const BIO: u8 = 4;
 pub const TICK: u8 = 5;
 pub const PLAN: u8 = 6;
 pub const VRATE: u8 = 7;
+pub const WEIGHT: u8 = 8;
+/// The highest kind; those above it are unknown, and so is 0.
+pub const LAST: u8 = WEIGHT;
 
 #[derive(Clone, Copy, Debug, PartialEq, Eq)]
 pub enum Record {
@@ -23,12 +26,13 @@ pub enum Record {
     Tick { time: u64 },
     Plan,
     Vrate { vrate: u16 },
+    Weight { node: u8, weight: u16 },
 }
 
 /// The length of a record with this kind byte, the byte counted; refusal 16.
 pub fn record_length(kind: u8) -> Result<usize, Refusal> {
     match kind {
-        NODE => Ok(4),
+        NODE | WEIGHT => Ok(4),
         MODEL => Ok(LONGEST),
         START | TICK => Ok(9),
         BIO => Ok(19),
@@ -91,8 +95,12 @@ fn decode_whole(bytes: &[u8]) -> Record {
             time: number(bytes, 1, 8),
         },
         PLAN => Record::Plan,
-        _ => Record::Vrate {
+        VRATE => Record::Vrate {
             vrate: number(bytes, 1, 2) as u16,
+        },
+        _ => Record::Weight {
+            node: bytes[1],
+            weight: number(bytes, 2, 2) as u16,
         },
     }
 }
@@ -107,6 +115,7 @@ impl Record {
             Record::Tick { .. } => TICK,
             Record::Plan => PLAN,
             Record::Vrate { .. } => VRATE,
+            Record::Weight { .. } => WEIGHT,
         }
     }
 }
@@ -123,8 +132,13 @@ pub fn encode(record: &Record, buffer: &mut [u8]) -> Result<usize, Refusal> {
         buffer[place..place + bytes.len()].copy_from_slice(bytes);
     };
     match *record {
-        Record::Node { parent, weight } => {
-            put(1, &[parent]);
+        // Both have a node's number and a weight.
+        Record::Node {
+            parent: node,
+            weight,
+        }
+        | Record::Weight { node, weight } => {
+            put(1, &[node]);
             put(2, &weight.to_le_bytes());
         }
         Record::Model(rates) => {

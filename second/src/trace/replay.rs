@@ -83,12 +83,21 @@ impl Replay {
                 } else {
                     in_setup && self.rules.changed(Mutant::SetupGoesOn)
                 };
-                let stops =
-                    in_setup || refusal.ends_trace() || self.rules.changed(Mutant::RefusalStops);
+                let stops = in_setup || refusal.ends_trace() || self.stops_by_mutant(refusal);
                 self.stopped = stops && !goes_on;
                 Outcome::Refused(refusal)
             }
         }
+    }
+
+    /// After start only 16 to 18 stop a replay, but under a mutant.
+    fn stops_by_mutant(&self, refusal: Refusal) -> bool {
+        let mutant = match refusal {
+            Refusal::NoWeight => Mutant::NodeStops,
+            Refusal::Tree | Refusal::Thin => Mutant::TreeStops,
+            _ => Mutant::RefusalStops,
+        };
+        self.rules.changed(mutant) || self.rules.changed(Mutant::RefusalStops)
     }
 
     /// A cut record is refused 17 whatever its phase, but under the mutant
@@ -138,6 +147,17 @@ impl Replay {
                 tree.check(self.rules)?;
                 return Err(Refusal::WrongPhase);
             }
+            (Record::Weight { node, weight }, _) => {
+                let node = usize::from(*node);
+                let absent = !(1..tree.count()).contains(&node);
+                if absent && self.rules.changed(Mutant::NodeBeforePhase) {
+                    return Err(Refusal::NoWeight);
+                }
+                if absent || !self.rules.changed(Mutant::WeightInSetup) {
+                    return Err(Refusal::WrongPhase);
+                }
+                *tree = tree.with_weight(node, *weight);
+            }
             _ => return Err(Refusal::WrongPhase),
         }
         Ok(Outcome::Quiet)
@@ -161,6 +181,14 @@ impl Replay {
             Record::Vrate { vrate } => {
                 controller.set_vrate(*vrate)?;
                 Ok(Outcome::Quiet)
+            }
+            Record::Weight { node, weight } => {
+                controller.set_weight(*node, *weight)?;
+                Ok(if self.rules.changed(Mutant::WeightPrints) {
+                    Outcome::Planned
+                } else {
+                    Outcome::Quiet
+                })
             }
             Record::Start { time } if self.rules.changed(Mutant::SecondStart) => {
                 let tree = controller.tree.clone();

@@ -4,3 +4,4 @@ pub mod debt;
 pub mod donation;
 pub mod load;
 pub mod usual;
+pub mod weight;
