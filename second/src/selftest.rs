@@ -5,9 +5,9 @@ use std::fmt::Debug;
 use std::io::{self, Write};
 
 use crate::engine::controller::{Answer, Controller, MAX_ELAPSED, MAX_PERIOD, MAX_VIRTUAL_TIME};
-use crate::engine::cost::{Bio, Model, Rates, Side, FORCED, WRITE};
+use crate::engine::cost::{Bio, Model, Rates, Side, FORCED, MAX_BYTES, WRITE};
 use crate::engine::leaf::relative_cost;
-use crate::engine::numbers::{ceil, floor, members, Absolute, Relative};
+use crate::engine::numbers::{ceil, floor, members, Absolute, Relative, WHOLE};
 use crate::engine::refusal::Refusal;
 use crate::engine::rules::{Mutant, Rules};
 use crate::engine::tree::Tree;
@@ -18,7 +18,7 @@ use crate::generator::style::Style;
 use crate::observation::ledger::audit;
 use crate::text::assemble::assemble_whole;
 use crate::text::list::list;
-use crate::trace::record::{decode, encode, Record, LONGEST};
+use crate::trace::record::{decode, encode, Record, LAST, LONGEST};
 use crate::trace::replay::replay;
 use crate::trace::stream::Reader;
 
@@ -40,7 +40,7 @@ impl Checks {
 }
 
 /// Fewer checks are no test: a loop over nothing is no success.
-const LEAST: u64 = 827;
+const LEAST: u64 = 905;
 
 /// A group of checks; a refusal ends it where none belongs.
 type Group = fn(&mut Checks) -> Result<(), Refusal>;
@@ -57,6 +57,9 @@ const GROUPS: &[(&str, Group)] = &[
     ("virtual time limit", virtual_time_limit),
     ("order of refusals at a tick", tick_refusal_order),
     ("release buffer", release_buffer),
+    ("refused weights", refused_weights),
+    ("accepted weights", accepted_weights),
+    ("savings at a weight", savings_at_weight),
     ("record buffer", record_buffer),
     ("places", places),
     ("texts", text_refusals),
@@ -392,6 +395,117 @@ fn release_buffer(checks: &mut Checks) -> Result<(), Refusal> {
     Ok(())
 }
 
+/// B10's donation with something saved on both sides, a debt, a waiting bio
+/// and all else that a weight must leave.
+fn standing_donation() -> Result<Controller, Refusal> {
+    let mut controller = planned(&[100, 300], &[25_000_000, 30_000_000])?;
+    controller.set_vrate(50)?;
+    controller.tick(20_000_000, &mut [])?;
+    controller.leaves[1].budget = Relative(3_000_000);
+    controller.leaves[2].budget = Relative(1_000_000);
+    let waits = Bio {
+        bytes: MAX_BYTES,
+        ..read(1, 0)
+    };
+    controller.submit(&waits)?;
+    controller.submit(&Bio { id: 2, ..waits })?;
+    controller.leaves[1].debt = Absolute(77);
+    controller.leaves[2].usage = Absolute(5);
+    controller.leaves[2].end = Some(9);
+    Ok(controller)
+}
+
+/// Sets a weight; also tells whether that changed the controller.
+fn weight_changes(
+    controller: &mut Controller,
+    node: u8,
+    weight: u16,
+) -> (Result<(), Refusal>, bool) {
+    let before = controller.clone();
+    let answer = controller.set_weight(node, weight);
+    (answer, *controller != before)
+}
+
+/// 19 before 1 before 2, each without a change, with a donation standing.
+fn refused_weights(checks: &mut Checks) -> Result<(), Refusal> {
+    let mut controller = standing_donation()?;
+    checks.equal("weight: donors before", controller.donors, 1 << 2);
+    for node in [0, 3, 4, 63, 64, 65, 127, 128, 255] {
+        for weight in [0, 1, 10_000, 10_001, u16::MAX] {
+            let refused = weight_changes(&mut controller, node, weight);
+            let name = format!("weight {} {}", node, weight);
+            checks.equal(&name, refused, (Err(Refusal::NoWeight), false));
+        }
+    }
+    for node in [1, 2] {
+        for weight in [0, 10_001, u16::MAX] {
+            let refused = weight_changes(&mut controller, node, weight);
+            let name = format!("weight {} {}", node, weight);
+            checks.equal(&name, refused, (Err(Refusal::Tree), false));
+        }
+    }
+    let absent = (3..=255).all(|node| {
+        let refused = weight_changes(&mut controller, node, 100);
+        refused == (Err(Refusal::NoWeight), false)
+    });
+    checks.equal("weight of all absent nodes", absent, true);
+    // B7's tree, no leaf active; B8's is the same with 1,024 at node 4.
+    let tree = tree_of(&[(0, 1), (0, 1_023), (1, 1), (1, 1_023)])?;
+    let mut edge = Controller::start(tree, Model::new(&BENCH, Rules::TRUE)?, 0, Rules::TRUE)?;
+    let thin = (Err(Refusal::Thin), false);
+    checks.equal("weight: B8", weight_changes(&mut edge, 4, 1_024), thin);
+    checks.equal("weight: thin", weight_changes(&mut edge, 2, 1_024), thin);
+    let bad = weight_changes(&mut edge, 4, 10_001);
+    checks.equal("weight: 1 before 2", bad, (Err(Refusal::Tree), false));
+    let equal = weight_changes(&mut edge, 4, 1_023);
+    checks.equal("weight: B7", equal, (Ok(()), false));
+    Ok(())
+}
+
+/// Shares, budgets and the donation follow a weight; all else stays.
+fn accepted_weights(checks: &mut Checks) -> Result<(), Refusal> {
+    let quarter = 268_435_456;
+    // The weight of leaf 1, then both shares and both budgets behind it. They
+    // were 671,088,639 and 402,653,185, and 3,000,000 and 1,000,000.
+    for (weight, shares, budgets) in [
+        (100, [quarter, 3 * quarter], [3_000_000, 500_000]),
+        (300, [2 * quarter, 2 * quarter], [3_000_000, 750_000]),
+        (900, [3 * quarter, quarter], [2_499_999, 1_000_000]),
+    ] {
+        let before = standing_donation()?;
+        let mut wanted = before.clone();
+        wanted.tree = before.tree.with_weight(1, weight);
+        wanted.donors = 0;
+        for (number, leaf) in wanted.leaves[1..3].iter_mut().enumerate() {
+            leaf.share = shares[number];
+            leaf.budget = Relative(budgets[number]);
+        }
+        let mut controller = before;
+        let answer = controller.set_weight(1, weight);
+        let name = format!("weight 1 {}", weight);
+        checks.equal(&name, answer, Ok(()));
+        checks.equal(&name, controller == wanted, true);
+        let sum = active_shares(&controller).iter().sum();
+        checks.equal(&name, sum, WHOLE);
+    }
+    Ok(())
+}
+
+/// What a light leaf saved buys next to nothing once its weight is raised; if
+/// it were kept, more would be spent than virtual time there was.
+fn savings_at_weight(checks: &mut Checks) -> Result<(), Refusal> {
+    let trace = trace_of(
+        "node 0 1\nnode 0 10000\n\
+         model 4096000 1000000000 1000000000 4096000 1000000000 1000000000\nstart 0\n\
+         bio 1 0 1 0 4096\ntick 1000000\nbio 2 0 2 0 405504\ntick 101000000\n\
+         weight 1 10000\nbio 1 0 3 8 163840\n",
+    );
+    checks.equal("savings", audit(&trace, Rules::TRUE), None);
+    let kept = audit(&trace, Rules::with(Mutant::BudgetKeptAtWeight));
+    checks.equal("savings kept", kept, Some("more spent than virtual time"));
+    Ok(())
+}
+
 /// One record of each kind, its numbers at their widest.
 fn widest_records() -> [Record; 8] {
     let most = u64::MAX;
@@ -453,6 +567,20 @@ fn places(checks: &mut Checks) -> Result<(), Refusal> {
     checks.equal("at the end", decode(&trace, 3), Ok(None));
     checks.equal("beyond it", decode(&trace, 4), Err(Refusal::CutRecord));
     checks.equal("empty trace", decode(&[], 0), Ok(None));
+    let weight = [8, 3, 0xf4, 1];
+    let read = Record::Weight {
+        node: 3,
+        weight: 500,
+    };
+    checks.equal("kind 8", decode(&weight, 0), Ok(Some((read, 4))));
+    for cut in 1..4 {
+        let refused = decode(&weight[..cut], 0);
+        checks.equal("kind 8 cut", refused, Err(Refusal::CutRecord));
+    }
+    for kind in [0, LAST + 1, 255] {
+        let refused = decode(&[kind, 3, 0xf4, 1], 0);
+        checks.equal("unknown kind", refused, Err(Refusal::UnknownKind));
+    }
     Ok(())
 }
 
