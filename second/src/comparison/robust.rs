@@ -12,7 +12,8 @@ use crate::generator::damage::{repeat_behind_setup, scatter};
 use crate::generator::generate::generate;
 use crate::generator::random::Random;
 use crate::generator::style::Style;
-use crate::trace::record::LAST;
+use crate::trace::record::{Record, LAST};
+use crate::trace::stream::Reader;
 
 /// A program that takes longer than this for the longest trace hangs.
 const PATIENCE: Duration = Duration::from_secs(300);
@@ -92,6 +93,23 @@ impl Damage {
     }
 }
 
+/// A small good trace: the first from a seed on that sets a weight, so that
+/// such a record is cut and changed too.
+fn small_trace(seed: u64) -> io::Result<Vec<u8>> {
+    let mut step = 0;
+    loop {
+        let mut trace = Vec::new();
+        generate(seed.wrapping_add(step), 20, Style::Valid, &mut trace)?;
+        let mut reader = Reader::new(&trace);
+        while let Ok(Some(record)) = reader.next() {
+            if matches!(record, Record::Weight { .. }) {
+                return Ok(trace);
+            }
+        }
+        step += 1;
+    }
+}
+
 /// A generated trace of so many bytes, most likely cut inside a record.
 fn long_trace(length: u64, seed: u64) -> io::Result<Vec<u8>> {
     let mut trace = Vec::new();
@@ -140,8 +158,7 @@ pub fn run(ours: &str, seed: u64, mut tally: Tally) -> io::Result<bool> {
             return Ok(tally.close());
         }
     };
-    let mut small = Vec::new();
-    generate(seed, 20, Style::Valid, &mut small)?;
+    let small = small_trace(seed)?;
     let all = all_damage(&small, &mut Random::new(seed));
     let tally = Mutex::new(tally);
     on_all_cores(all.len(), PATIENCE, |watch, number| {
