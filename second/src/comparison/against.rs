@@ -13,7 +13,7 @@ use crate::observation::census::{count_trace, Census};
 
 /// Fewer traces, fewer records or a census that asks for less are no
 /// comparison.
-const LEAST_TRACES: u64 = 2_216;
+const LEAST_TRACES: u64 = 2_219;
 const LEAST_RECORDS: u64 = 1_000_000;
 const LEAST_ASKED: u64 = 189;
 

@@ -188,7 +188,7 @@ impl Tree {
             } else {
                 shares[parent]
             };
-            // Only a mutant's weights sum to 0.
+            // The weights of a tree that is only tried may sum to 0.
             let (weight, sum) = (self.weights[node], sums[parent].max(1));
             shares[node] = rules.floor(Mutant::ShareRoundedUp, divided, weight, sum);
         }
