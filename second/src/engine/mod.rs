@@ -7,3 +7,4 @@ pub mod numbers;
 pub mod refusal;
 pub mod rules;
 pub mod tree;
+mod weight;

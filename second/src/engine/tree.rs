@@ -126,6 +126,11 @@ impl Tree {
         self.weights[node] as u16
     }
 
+    /// Whether a node is there, is not the root and has a child.
+    pub fn is_inner(&self, node: usize) -> bool {
+        (1..self.count).contains(&node) && !is_member(self.leaves, node)
+    }
+
     /// The leaves that a node is or has below it.
     pub fn leaves_of(&self, node: usize) -> u64 {
         let mut below = 1 << node;
