@@ -1,4 +1,5 @@
-//! The rules of document 01 on numbers and nodes. Nothing here knows of traces.
+//! The rules of document 01, and of what is built of document 02, on numbers and
+//! nodes. Nothing here knows of traces.
 
 pub mod controller;
 pub mod cost;
