@@ -198,8 +198,7 @@ reshared active donors shares c =
 unfoldable pub rebased : ℕ → Controller → Controller
 rebased active c = reshared active noNode (baseShares (c .tree) active) c
 
--- ---- request One: "sets one node's weight .. any donation ends, base shares are worked out anew among the active leaves, and
--- budgets follow the rule for rising shares", from the share held before
+-- ---- request One: "Otherwise any donation ends, ..", in the tree with the weight; budgets go from the share held before (DECISIONS 59)
 unfoldable pub reweighted : ℕ → ℕ → Controller → Controller
 reweighted n w c = rebased (c .active) (withTree (withWeight n w (c .tree)) c)
 

@@ -255,8 +255,7 @@ planChecks c = (eqb (c .clock .since .0) 0 ⇒ NothingPassed) ∷ []
 unfoldable pub vrateChecks : ℕ → List Check
 vrateChecks v = (not (vrateInRange v) ⇒ BadVrate) ∷ []
 
--- request One: "Refusal 19 if the node is the root or absent, then 1 for the weight, then 2 if the new tree is thin"; thin is
--- judged with all leaves active, as ever
+-- request One: "Refusal 19 if .., then 1 .., then 2 .." (DECISIONS 59, 60)
 unfoldable pub weightChecks : ℕ → ℕ → Tree → List Check
 weightChecks n w t =
     (not (isBelowRoot t n) ⇒ NotBelowRoot)

@@ -7,8 +7,8 @@ use borrow.Author.Tests.{ltb-false, not-false}
 use Rattle.rules.specs.Numbers.{vrateLeast, vrateMost}
 use Rattle.rules.specs.Cost.{ratesInRange}
 use Rattle.rules.specs.Tree.{weightInRange, treeFault, isThin, isBelowRoot, withWeight}
-use Rattle.rules.specs.Refusals.{firstOf, treeChecks, rateChecks, startChecks, tickChecks, vrateChecks, weightChecks}
-use Rattle.rules.specs.Entries.{started, startedBy}
+use Rattle.rules.specs.Refusals.{firstOf, treeChecks, rateChecks, startChecks, tickChecks, planChecks, vrateChecks, weightChecks}
+use Rattle.rules.specs.Entries.{started, startedBy, planned, plannedBy, vrated, vratedBy, weighted, weightedBy}
 use Rattle.rules.specs.Invariant.{TickPasses}
 use Rattle.rules.specs.Laws.TreeVerdicts.{sound-when}
 use Rattle.rules.specs.Laws.Bools.{never, between}
@@ -16,6 +16,7 @@ use Rattle.rules.specs.declared.cost.Rates.{Rates}
 use Rattle.rules.specs.declared.tree.Tree.{Tree}
 use Rattle.rules.specs.declared.tree.Fault.the-variants.{Sound}
 use Rattle.rules.specs.declared.budget.Controller.{Controller}
+use Rattle.rules.specs.declared.budget.Outcome.{Outcome}
 use Rattle.rules.specs.declared.refusals.Refusal.{Refusal}
 use Rattle.rules.specs.declared.refusals.Verdict.{Verdict}
 use Rattle.rules.specs.declared.refusals.Verdict.the-variants.{Accepted, Refused}
@@ -74,11 +75,24 @@ start-passes t r e =
     let d = check-passed _ _ _ (b .1) in
     record { tree = sound-when (treeFault t) (a .0); thick = b .0; rates = not-false _ (d .0) }
 
--- the answer of a start is what its checks give
+-- ---- of a call that answers a verdict, the answer is what its checks give
+by-verdict : (by : Verdict → Outcome) → by Accepted .answer ≡ Accepted → ((x : Refusal) → by (Refused x) .answer ≡ Refused x)
+    → (v : Verdict) → by v .answer ≡ v
+by-verdict by a r Accepted = a
+by-verdict by a r (Refused x) = r x
+
 pub start-answers : (t : Tree) (r : Rates) (time : ℕ) → started t r time .answer ≡ firstOf (startChecks t r)
 unfolding started startedBy
-start-answers t r time = go (firstOf (startChecks t r))
-  where
-    go : (v : Verdict) → startedBy v t r time .answer ≡ v
-    go Accepted = refl
-    go (Refused x) = refl
+start-answers t r time = by-verdict (λ v. startedBy v t r time) refl (λ x. refl) (firstOf (startChecks t r))
+
+pub plan-answers : (c : Controller) → planned c .answer ≡ firstOf (planChecks c)
+unfolding planned plannedBy
+plan-answers c = by-verdict (λ v. plannedBy v c) refl (λ x. refl) (firstOf (planChecks c))
+
+pub vrate-answers : (v : ℕ) (c : Controller) → vrated v c .answer ≡ firstOf (vrateChecks v)
+unfolding vrated vratedBy
+vrate-answers v c = by-verdict (λ t. vratedBy t v c) refl (λ x. refl) (firstOf (vrateChecks v))
+
+pub weighted-answers : (n w : ℕ) (c : Controller) → weighted n w c .answer ≡ firstOf (weightChecks n w (c .tree))
+unfolding weighted weightedBy
+weighted-answers n w c = by-verdict (λ t. weightedBy t n w c) refl (λ x. refl) (firstOf (weightChecks n w (c .tree)))

@@ -14,8 +14,8 @@ use Rattle.rules.specs.Budget.{wouldBe, submission}
 use Rattle.rules.specs.Tick.{growth, releases}
 use Rattle.rules.specs.Trace.{layout, recordBytes, writing, fieldsFrom, behind, readAt}
 use Rattle.rules.specs.Refusals.{_⇒_, paper, paperOf, due, unless, numbersOf, firstOf, verdictNumber, answerValues, modelValues, answerPaper, countPaper, pricingPaper, costingPaper, readPaper, writePaper, treeChecks, nodeChecks, rateChecks, startChecks, costChecks, roomChecks, submitChecks, tickChecks, planChecks, vrateChecks, weightChecks, readChecks, valuesAt, writeChecks}
-use Rattle.rules.specs.Entries.{pricingBy, pricing, treeVerdict, costingBy, costing, started, submittedBy, submitted, tickedBy, ticked, plannedBy, planned, vratedBy, vrated, weightedBy, weighted}
-use Rattle.rules.specs.Laws.Passes.{start-answers}
+use Rattle.rules.specs.Entries.{pricingBy, pricing, treeVerdict, costingBy, costing, started, submittedBy, submitted, tickedBy, ticked, planned, vrated, weighted}
+use Rattle.rules.specs.Laws.Passes.{start-answers, plan-answers, vrate-answers, weighted-answers}
 use Rattle.rules.specs.Laws.Answers.{answer-is-no-refusal}
 use Rattle.rules.specs.Laws.Trace.{endAt, Reading, each-answer, kind-of-record, fields-of-record}
 use Rattle.rules.specs.Laws.Trace.Reading.{beyond, ended, unknown, cut, whole}
@@ -103,8 +103,12 @@ pub check-on-paper : (t : Tree) {r : Verdict} → r ≡ treeVerdict t → verdic
 unfolding treeVerdict
 check-on-paper t e = ap verdictNumber e
 
+-- of a call that answers a verdict, by the outcome of its rule
+verdict-on-paper : {r o : Outcome} {v : Verdict} → o .answer ≡ v → r ≡ o → verdictNumber (r .answer) ≡ verdictNumber v
+verdict-on-paper i e = ap (λ (o : Outcome). verdictNumber (o .answer)) e ∙ ap verdictNumber i
+
 pub start-on-paper : (t : Tree) (rates : Rates) (time : ℕ) {r : Outcome} → r ≡ started t rates time → verdictNumber (r .answer) ≡ due (startChecks t rates)
-start-on-paper t rates time e = ap (λ (o : Outcome). verdictNumber (o .answer)) e ∙ ap verdictNumber (start-answers t rates time)
+start-on-paper t rates time = verdict-on-paper (start-answers t rates time)
 
 -- issued, waits and on debt are no refusals
 no-refusal : (a : Answer) → ((x : Refusal) → a ≡ Declined x → ⊥) → answerPaper a ≡ paper 0 (answerValues a)
@@ -133,28 +137,13 @@ tick-on-paper time lent c e = ap (λ (o : Ticked). countPaper (o .answer)) e ∙
     go (Refused x) = refl
 
 pub plan-on-paper : (c : Controller) {r : Outcome} → r ≡ planned c → verdictNumber (r .answer) ≡ due (planChecks c)
-unfolding planned plannedBy
-plan-on-paper c e = ap (λ (o : Outcome). verdictNumber (o .answer)) e ∙ go (firstOf (planChecks c))
-  where
-    go : (v : Verdict) → verdictNumber (plannedBy v c .answer) ≡ verdictNumber v
-    go Accepted = refl
-    go (Refused x) = refl
+plan-on-paper c = verdict-on-paper (plan-answers c)
 
 pub vrate-on-paper : (v : ℕ) (c : Controller) {r : Outcome} → r ≡ vrated v c → verdictNumber (r .answer) ≡ due (vrateChecks v)
-unfolding vrated vratedBy
-vrate-on-paper v c e = ap (λ (o : Outcome). verdictNumber (o .answer)) e ∙ go (firstOf (vrateChecks v))
-  where
-    go : (t : Verdict) → verdictNumber (vratedBy t v c .answer) ≡ verdictNumber t
-    go Accepted = refl
-    go (Refused x) = refl
+vrate-on-paper v c = verdict-on-paper (vrate-answers v c)
 
 pub weight-on-paper : (n w : ℕ) (c : Controller) {r : Outcome} → r ≡ weighted n w c → verdictNumber (r .answer) ≡ due (weightChecks n w (c .tree))
-unfolding weighted weightedBy
-weight-on-paper n w c e = ap (λ (o : Outcome). verdictNumber (o .answer)) e ∙ go (firstOf (weightChecks n w (c .tree)))
-  where
-    go : (t : Verdict) → verdictNumber (weightedBy t n w c .answer) ≡ verdictNumber t
-    go Accepted = refl
-    go (Refused x) = refl
+weight-on-paper n w c = verdict-on-paper (weighted-answers n w c)
 
 -- ---- a place of a trace, and a lent buffer
 whole-inside : (trace : List ℕ) (at : ℕ) → endAt trace at ≤ length trace → at < length trace

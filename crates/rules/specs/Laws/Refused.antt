@@ -19,7 +19,7 @@ use Rattle.rules.specs.Entries.{submittedBy, submitted, tickedBy, ticked
 use Rattle.rules.specs.Laws.Bools.{never, true-not-false, exactly, exactly-both, exactly-not, at-most, between}
 use Rattle.rules.specs.Laws.Costs.{BioInRange, bio-in-range, RatesInRange, rates-in-range}
 use Rattle.rules.specs.Laws.TreeVerdicts.{sound-when}
-use Rattle.rules.specs.Laws.Passes.{start-answers}
+use Rattle.rules.specs.Laws.Passes.{start-answers, plan-answers, vrate-answers, weighted-answers}
 use Rattle.rules.specs.Laws.Answers.{answer-is-no-refusal}
 use Rattle.rules.specs.Laws.Verdicts.{lacks, accepted-is-not-refused, not-given, given-exactly-when}
 use Rattle.rules.specs.Laws.Submits.{costIn}
@@ -240,13 +240,12 @@ module _ (time : ℕ) (lent : List ℕ) (c : Controller) where
       ))
 
 -- ---- the refusals of a plan and of vrate
+-- an answer that is what its checks give refuses exactly where they do
+as-its-checks : {answer v : Verdict} → answer ≡ v → (x : Refusal) → (answer ≡ Refused x) ↔ (v ≡ Refused x)
+as-its-checks e x = (λ i. sym e ∙ i, λ i. e ∙ i)
+
 pub plan-refuses : (c : Controller) (x : Refusal) → (planned c .answer ≡ Refused x) ↔ (firstOf (planChecks c) ≡ Refused x)
-unfolding planned plannedBy
-plan-refuses c x = go (firstOf (planChecks c))
-  where
-    go : (v : Verdict) → (plannedBy v c .answer ≡ Refused x) ↔ (v ≡ Refused x)
-    go Accepted = (λ e. e, λ e. e)
-    go (Refused y) = (λ e. e, λ e. e)
+plan-refuses c = as-its-checks (plan-answers c)
 
 pub refusal-14-exactly-when : (c : Controller) → (planned c .answer ≡ Refused NothingPassed) ↔ (c .clock .since .0 ≡ 0)
 unfolding planChecks
@@ -255,12 +254,7 @@ refusal-14-exactly-when c =
     (exactly (given-exactly-when [] (eqb (c .clock .since .0) 0) NothingPassed [] refl refl) (λ w. eqb-true _ _ (w .1), λ w. (tt, eq-eqb _ _ w)))
 
 vrate-refuses : (v : ℕ) (c : Controller) (x : Refusal) → (vrated v c .answer ≡ Refused x) ↔ (firstOf (vrateChecks v) ≡ Refused x)
-unfolding vrated vratedBy
-vrate-refuses v c x = go (firstOf (vrateChecks v))
-  where
-    go : (t : Verdict) → (vratedBy t v c .answer ≡ Refused x) ↔ (t ≡ Refused x)
-    go Accepted = (λ e. e, λ e. e)
-    go (Refused y) = (λ e. e, λ e. e)
+vrate-refuses v c = as-its-checks (vrate-answers v c)
 
 pub refusal-15-exactly-when : (v : ℕ) (c : Controller) → (vrated v c .answer ≡ Refused BadVrate) ↔ ((vrateLeast ≤ v) × (v ≤ vrateMost) → ⊥)
 unfolding vrateChecks
@@ -272,12 +266,7 @@ refusal-15-exactly-when v c =
 
 -- ---- the refusals of a weight: 19, then 1, then 2
 weight-refuses : (n w : ℕ) (c : Controller) (x : Refusal) → (weighted n w c .answer ≡ Refused x) ↔ (firstOf (weightChecks n w (c .tree)) ≡ Refused x)
-unfolding weighted weightedBy
-weight-refuses n w c x = go (firstOf (weightChecks n w (c .tree)))
-  where
-    go : (t : Verdict) → (weightedBy t n w c .answer ≡ Refused x) ↔ (t ≡ Refused x)
-    go Accepted = (λ e. e, λ e. e)
-    go (Refused y) = (λ e. e, λ e. e)
+weight-refuses n w c = as-its-checks (weighted-answers n w c)
 
 module _ (n w : ℕ) (c : Controller) where
   -- the node is neither the root nor absent
@@ -335,7 +324,7 @@ module _ (n w : ℕ) (c : Controller) where
 
 -- ---- the refusals of start
 start-refuses : (t : Tree) (r : Rates) (time : ℕ) (x : Refusal) → (started t r time .answer ≡ Refused x) ↔ (firstOf (startChecks t r) ≡ Refused x)
-start-refuses t r time x = (λ e. sym (start-answers t r time) ∙ e, λ e. start-answers t r time ∙ e)
+start-refuses t r time = as-its-checks (start-answers t r time)
 
 fault-test : (f : Fault) → (isFault f ≡ false) ↔ (f ≡ NoFault)
 fault-test f = (sound-when f, λ e. rw e)
