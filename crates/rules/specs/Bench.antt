@@ -1,6 +1,7 @@
 -- Numbers on the bench: B1 to B12, shown of the rules themselves by one fact over a single list, and the whole case of a trace.
 -- Assumes nothing.
 pub mod Edges
+pub mod Faults
 pub mod Run
 pub mod Weights
 use mathlib.Core.Path.{_≡_, refl}

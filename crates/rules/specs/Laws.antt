@@ -8,6 +8,7 @@ pub mod Units
 pub mod Costs
 pub mod Trees
 pub mod TreeVerdicts
+pub mod Faults
 pub mod Shares
 pub mod Donation
 pub mod Refusals
@@ -30,6 +31,7 @@ pub mod Trace
 pub mod Buffers
 pub mod Lines
 pub mod Replays
+pub mod Nodes
 pub mod Chunks
 pub mod Pieces
 pub mod Cuts

@@ -108,9 +108,10 @@ leafMost = nodesMost - 1
 abbrev pub waitingMost : ℕ
 waitingMost = leafMost * queueRoom
 
--- ---- what a line takes at most: a refusal, R and two digits; an id of ten digits; a leaf of two and its share of ten
+-- ---- what a line takes at most: a refusal, R, two digits and a node of twenty, whatever number of 64 bits it is; an id of ten
+-- digits; a leaf of two and its share of ten
 abbrev pub refusalRoom : ℕ
-refusalRoom = 5
+refusalRoom = 26
 
 abbrev pub idRoom : ℕ
 idRoom = 13

@@ -41,9 +41,26 @@ use Rattle.rules.specs.declared.trace.Read.the-variants.{Found, End, Ref
 use Rattle.rules.specs.declared.trace.Write.{Write}
 use Rattle.rules.specs.declared.trace.Write.the-variants.{Wrote, Refused as Unwritten}
 
+-- request Two: "20 node count, 21 parent, 22 weight, 23 level". A tree without a fault is not refused, so that has no number
+-- (DECISIONS 63)
+abbrev pub faultNumber : Fault → ℕ
+faultNumber Sound = 0
+faultNumber Count = 20
+faultNumber (Parent n) = 21
+faultNumber (Weight n) = 22
+faultNumber (Level n) = 23
+
+-- ".. with the number of the first bad node"; "20 names node 0"
+abbrev pub faultNode : Fault → ℕ
+faultNode Sound = 0
+faultNode Count = 0
+faultNode (Parent n) = n
+faultNode (Weight n) = n
+faultNode (Level n) = n
+
 -- the number of each refusal in the table
 abbrev pub number : Refusal → ℕ
-number (BadTree f) = 1
+number (BadTree f) = faultNumber f
 number ThinTree = 2
 number BadRate = 3
 number NoLeaf = 4
@@ -63,6 +80,29 @@ number CutShort = 17
 number WrongPhase = 18
 number NotBelowRoot = 19
 number ShortBuffer = 28
+
+-- what a refusal names beside its number: a fault of the tree its node, and any other nothing (DECISIONS 64)
+abbrev pub named : Refusal → List ℕ
+named (BadTree f) = faultNode f ∷ []
+named ThinTree = []
+named BadRate = []
+named NoLeaf = []
+named BadBio = []
+named TooDear = []
+named QueueFull = []
+named DebtFull = []
+named TimeBack = []
+named TimeFar = []
+named ClockFull = []
+named PlanDue = []
+named FewPlaces = []
+named NothingPassed = []
+named BadVrate = []
+named UnknownKind = []
+named CutShort = []
+named WrongPhase = []
+named NotBelowRoot = []
+named ShortBuffer = []
 
 -- ---- "Where several hold in one call, .."
 infix 25 _⇒_
@@ -109,17 +149,17 @@ abbrev pub writeNumber : Write → ℕ
 writeNumber (Wrote n) = 0
 writeNumber (Unwritten x) = number x
 
--- ---- and its values, none where it is a refusal: the letter that the replay prints for it
+-- ---- and its values; where it is a refusal, what that names: the letter that the replay prints for it
 abbrev pub answerValues : Answer → List ℕ
 answerValues Issued = letterI ∷ []
 answerValues Waits = letterW ∷ []
 answerValues OnDebt = letterD ∷ []
-answerValues (Declined x) = []
+answerValues (Declined x) = named x
 
 -- how many were released
 abbrev pub countValues : Count·Answer → List ℕ
 countValues (Released n) = n ∷ []
-countValues (Unticked x) = []
+countValues (Unticked x) = named x
 
 -- what each direction costs: a page, and the bases
 abbrev pub modelValues : Model → List ℕ
@@ -130,22 +170,22 @@ modelValues m =
 
 abbrev pub pricingValues : Pricing → List ℕ
 pricingValues (Priced m) = modelValues m
-pricingValues (Unpriced x) = []
+pricingValues (Unpriced x) = named x
 
 abbrev pub costingValues : Costing → List ℕ
 costingValues (Costs cost) = cost .0 ∷ []
-costingValues (Uncosted x) = []
+costingValues (Uncosted x) = named x
 
 -- the record, by its kind and its numbers, with the place behind it
 abbrev pub readValues : Read → List ℕ
 readValues (Found r next) = kindOf r ∷ fieldsOf r ++ (next ∷ [])
 readValues End = []
-readValues (Unread x) = []
+readValues (Unread x) = named x
 
 -- how many bytes were written
 abbrev pub writeValues : Write → List ℕ
 writeValues (Wrote n) = n ∷ []
-writeValues (Unwritten x) = []
+writeValues (Unwritten x) = named x
 
 -- ---- both together: an answer as the paper has it
 pub record Paper : Type 0 where
@@ -173,13 +213,17 @@ readPaper a = paper (readNumber a) (readValues a)
 abbrev pub writePaper : Write → Paper
 writePaper a = paper (writeNumber a) (writeValues a)
 
+abbrev pub unless : Verdict → List ℕ → List ℕ
+unless Accepted vs = vs
+unless (Refused x) vs = named x
+
+-- a verdict that accepts gives no value
+abbrev pub verdictPaper : Verdict → Paper
+verdictPaper v = paper (verdictNumber v) (unless v [])
+
 -- "Each returns its number": that of the first check that holds, and 0 where none does
 abbrev pub due : List Check → ℕ
 due ks = verdictNumber (firstOf ks)
-
-abbrev pub unless : Verdict → List ℕ → List ℕ
-unless Accepted vs = vs
-unless (Refused x) vs = []
 
 -- what an entry says that has these checks, and these values to give where none holds
 abbrev pub paperOf : List Check → List ℕ → Paper
@@ -255,7 +299,7 @@ planChecks c = (eqb (c .clock .since .0) 0 ⇒ NothingPassed) ∷ []
 unfoldable pub vrateChecks : ℕ → List Check
 vrateChecks v = (not (vrateInRange v) ⇒ BadVrate) ∷ []
 
--- request One: "Refusal 19 if .., then 1 .., then 2 .." (DECISIONS 59, 60)
+-- request One: "Refusal 19 if .., then 1 .., then 2 .." (DECISIONS 59, 60); request Two: ".. becomes 22"
 unfoldable pub weightChecks : ℕ → ℕ → Tree → List Check
 weightChecks n w t =
     (not (isBelowRoot t n) ⇒ NotBelowRoot)

@@ -8,7 +8,7 @@ use lib.ListN.{length, getD, take, set, replicate}
 use Rattle.rules.specs.Numbers.{nodesMost, leafMost, waitingMost, letterI, letterW, letterD}
 use Rattle.rules.specs.Words.{joinTo, has}
 use Rattle.rules.specs.Budget.{fresh}
-use Rattle.rules.specs.Refusals.{number, firstOf, nodeChecks, rateChecks}
+use Rattle.rules.specs.Refusals.{number, named, firstOf, nodeChecks, rateChecks}
 use Rattle.rules.specs.Entries.{noTree, slowest, slowestModel, started, submitted, ticked, lentOf, planned, setBy}
 use Rattle.rules.specs.Trace.{kindOf, readAt}
 use Rattle.rules.specs.declared.cost.Rates.{Rates}
@@ -49,9 +49,9 @@ numbers (n ∷ ns) = 32 ∷ digits n ++ numbers ns
 unfoldable pub line : ℕ → List ℕ → List ℕ
 line letter ns = letter ∷ numbers ns ++ (10 ∷ [])
 
--- "The replay prints one line each: .."
+-- "The replay prints one line each: .."; a refusal that names a node says that too (DECISIONS 64)
 unfoldable pub refusalLine : Refusal → List ℕ
-refusalLine x = line 82 (number x ∷ [])
+refusalLine x = line 82 (number x ∷ named x)
 
 unfoldable pub answerLine : Answer → ℕ → List ℕ
 answerLine Issued id = line letterI (id ∷ [])

@@ -51,11 +51,11 @@ abbrev pub gives : ℕ → List Check → Case
 gives n ks = B 0 (verdictNumber (firstOf ks)) n
 
 -- a tree of one leaf, so many levels below the root
-abbrev chain : ℕ → Tree
+abbrev pub chain : ℕ → Tree
 chain n = tree (n + 1) (tableFrom (λ i. i) 0 n) (replicate n 1)
 
 -- a tree of so many leaves below the root
-abbrev star : ℕ → Tree
+abbrev pub star : ℕ → Tree
 star n = tree (n + 1) (replicate n 0) (replicate n 1)
 
 -- a model in which a small read costs so much

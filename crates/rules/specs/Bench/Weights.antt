@@ -20,7 +20,7 @@ use Rattle.rules.specs.declared.replay.Setting.the-variants.{Weight as S
 use Rattle.rules.specs.Bench.{computed, bytesOfAll, B, ratesM, M, tree5, tree6, tree7, allRight, Case}
 use Rattle.rules.specs.Bench.Edges.{gives, read, Seen, see, allSame, leafNumbers, bookNumbers, queueNumbers, saved6, owes6, leaf1, leaf2, leaf3, top, heads, asked}
 
--- ---- when it is refused: 19 for the root and for what is not below it, before 1 for the weight, before 2 for a leaf that
+-- ---- when it is refused: 19 for the root and for what is not below it, before 22 for the weight, before 2 for a leaf that
 -- another one's weight makes thin; B7's tree with B8's weight is thin, and with B7's again it is not
 abbrev answered : ℕ → ℕ → Controller → ℕ
 answered n w c = verdictNumber (weighted n w c .answer)
@@ -29,10 +29,10 @@ pub weightEdges : List Case
 weightEdges =
     gives 0 (weightChecks 1 100 tree5) ∷ gives 0 (weightChecks 2 100 tree5)
     ∷ gives 19 (weightChecks 0 100 tree5) ∷ gives 19 (weightChecks 3 100 tree5) ∷ gives 19 (weightChecks 255 100 tree5)
-    ∷ gives 0 (weightChecks 1 1 tree5) ∷ gives 1 (weightChecks 1 0 tree5)
-    ∷ gives 0 (weightChecks 1 10000 tree5) ∷ gives 1 (weightChecks 1 10001 tree5) ∷ gives 1 (weightChecks 1 65535 tree5)
+    ∷ gives 0 (weightChecks 1 1 tree5) ∷ gives 22 (weightChecks 1 0 tree5)
+    ∷ gives 0 (weightChecks 1 10000 tree5) ∷ gives 22 (weightChecks 1 10001 tree5) ∷ gives 22 (weightChecks 1 65535 tree5)
     ∷ gives 19 (weightChecks 0 0 tree5) ∷ gives 19 (weightChecks 3 10001 tree5)
-    ∷ gives 0 (weightChecks 4 1023 (tree7 1023)) ∷ gives 2 (weightChecks 4 1024 (tree7 1023)) ∷ gives 1 (weightChecks 4 10001 (tree7 1023))
+    ∷ gives 0 (weightChecks 4 1023 (tree7 1023)) ∷ gives 2 (weightChecks 4 1024 (tree7 1023)) ∷ gives 22 (weightChecks 4 10001 (tree7 1023))
     ∷ gives 0 (weightChecks 4 1023 (tree7 1024)) ∷ gives 2 (weightChecks 2 1024 (tree7 1023)) ∷ gives 0 (weightChecks 1 2 (tree7 1023))
     -- thin is judged with all leaves active, although none is
     ∷ B 0 (answered 4 1024 (fresh (tree7 1023) M 0)) 2 ∷ B 0 (answered 4 1023 (fresh (tree7 1023) M 0)) 0
@@ -78,7 +78,7 @@ weightBooks =
     -- an inner node's: 3 of 1,026 for it and so for leaf 3, its only active one; a node with no active leaf below it moves none
     ∷ see (take 5 (weighted 1 3 inner7 .state .shares)) (0 ∷ 0 ∷ 1070602228 ∷ 3139595 ∷ 0 ∷ [])
     ∷ see (take 5 (weighted 4 9 inner7 .state .shares)) (0 ∷ 0 ∷ 1072693248 ∷ 1048576 ∷ 0 ∷ [])
-    -- refused 19, 1 or 2, nothing changes: the donation stands
+    -- refused 19, 22 or 2, nothing changes: the donation stands
     ∷ see (then 0 300 saved6) (top 6 4 ++ leaf1 ++ leaf2 ++ leaf3)
     ∷ see (then 1 0 saved6) (top 6 4 ++ leaf1 ++ leaf2 ++ leaf3)
     ∷ see (answered 4 1024 (withTree (tree7 1023) saved6) ∷ then 4 1024 (withTree (tree7 1023) saved6)) (2 ∷ top 6 4 ++ leaf1 ++ leaf2 ++ leaf3)
@@ -113,7 +113,7 @@ weightOutput =
     ∷ 114 ∷ 32 ∷ 49 ∷ 10  -- r 1
     ∷ 87 ∷ 32 ∷ 50 ∷ 10  -- W 2
     ∷ 82 ∷ 32 ∷ 49 ∷ 57 ∷ 10  -- R 19
-    ∷ 82 ∷ 32 ∷ 49 ∷ 10  -- R 1
+    ∷ 82 ∷ 32 ∷ 50 ∷ 50 ∷ 32 ∷ 50 ∷ 10  -- R 22 2
     ∷ 73 ∷ 32 ∷ 51 ∷ 10  -- I 3
     ∷ 73 ∷ 32 ∷ 52 ∷ 10  -- I 4
     ∷ 87 ∷ 32 ∷ 53 ∷ 10  -- W 5

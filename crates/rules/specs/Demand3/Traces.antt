@@ -13,7 +13,9 @@ use Rattle.rules.specs.Replay.{Step, silent, stopsAt, Called, bioCall, t
 use Rattle.rules.specs.Chunks.{callOf, isCall}
 use Rattle.rules.specs.Ledger.{Call, after, generated, charged}
 use Rattle.rules.specs.Demand3.Sentences.{run, sumOf, never-overspent}
-use Rattle.rules.specs.Laws.Replays.{unread-stops, out-of-phase-stops, in-phase-is-carried-out}
+use Rattle.rules.specs.Invariant.{SoundTree, Playing}
+use Rattle.rules.specs.Laws.Replays.{beginning-plays, stepped-plays, unread-stops, out-of-phase-stops, in-phase-is-carried-out}
+use Rattle.rules.specs.Laws.Nodes.{beginning-nodes, step-keeps-nodes}
 use Rattle.rules.specs.declared.cost.Rates.{Rates}
 use Rattle.rules.specs.declared.tree.Tree.{Tree}
 use Rattle.rules.specs.declared.budget.Controller.{Controller}
@@ -191,6 +193,16 @@ steps-reach trace (suc n) place s h = steps-reach trace n _ _ (step-reaches (rea
 
 pub every-state-of-a-replay-is-reached : (trace : List ℕ) (n : ℕ) → Reached (replayAfter n trace 0 beginning .state)
 every-state-of-a-replay-is-reached trace n = steps-reach trace n 0 beginning beginning-reached
+
+-- ---- the tree that a trace's setup gives: a replay holds no faulty node, whatever the trace
+steps-keep-nodes : (trace : List ℕ) (n place : ℕ) (s : Replay) → Playing s → SoundTree (s .tree) → SoundTree (replayAfter n trace place s .tree)
+unfolding replayAfter
+steps-keep-nodes trace zero place s h sound = sound
+steps-keep-nodes trace (suc n) place s h sound =
+    steps-keep-nodes trace n _ _ (stepped-plays (readAt trace place) s h) (step-keeps-nodes s h sound (readAt trace place))
+
+pub no-replay-holds-a-faulty-node : (trace : List ℕ) (n : ℕ) → SoundTree (replayAfter n trace 0 beginning .tree)
+no-replay-holds-a-faulty-node trace n = steps-keep-nodes trace n 0 beginning beginning-plays beginning-nodes
 
 -- ---- and demand 3 of every trace: what the calls that it holds charge is at most what its ticks generate, upon the state of any
 -- start; of its own, by `a-replay-goes-by-its-calls-from-start-on`, these are the states that the replay goes through

@@ -2,6 +2,7 @@
 -- Assumes nothing.
 use mathlib.Core.Path.{_≡_, refl, sym, ap, _∙_}
 use mathlib.Core.Bool.{Bool, true, false, cond}
+use mathlib.Core.Logic.{_⊎_, inl, inr, ⊎-elim}
 use mathlib.Core.List.{List, [], _∷_, _++_, append-assoc, append-nil}
 use Prim.Native.Nat.{ℕ, zero, suc, _+_, _-_, _*_, _/_, _%_, _^_, _≤_, _<_}
 use native.Mathlib.Nat.{div-lt-iff-lt-mul, pow-suc}
@@ -12,9 +13,12 @@ use lib.ListN.{length, take, getD, length-append}
 use lib.Seq.{take-suc}
 use borrow.Author.Tests.{ltb-true, ltb-false, lt-ltb, le-ltb}
 use Rattle.rules.specs.Words.{joinTo, has}
-use Rattle.rules.specs.Refusals.{number}
-use Rattle.rules.specs.Replay.{digitsIn, digits, line, refusalLine, releaseLines, shareLines, leafLine, shareLinesTo, shareLinesOf}
+use Rattle.rules.specs.Numbers.{refusalRoom}
+use Rattle.rules.specs.Refusals.{faultNumber, faultNode, number, named}
+use Rattle.rules.specs.Replay.{digitsIn, digits, numbers, line, refusalLine, releaseLines, shareLines, leafLine, shareLinesTo, shareLinesOf}
 use Rattle.rules.specs.declared.budget.Controller.{Controller}
+use Rattle.rules.specs.declared.tree.Fault.{Fault}
+use Rattle.rules.specs.declared.tree.Fault.the-variants.{Sound, Count, Parent, Weight, Level}
 use Rattle.rules.specs.declared.refusals.Refusal.{Refusal}
 use Rattle.rules.specs.declared.refusals.Refusal.the-variants.{BadTree, ThinTree, BadRate, NoLeaf, BadBio, TooDear, QueueFull, DebtFull, TimeBack, TimeFar, ClockFull, PlanDue, FewPlaces, NothingPassed, BadVrate, UnknownKind, CutShort, WrongPhase, NotBelowRoot, ShortBuffer}
 
@@ -67,6 +71,19 @@ pub digits-most : (k n : ℕ) → n < 10 ^ suc k → length (digits n) ≤ suc k
 unfolding digits
 digits-most k n h = digits-in-most 20 k n h
 
+-- no number has more digits than one of 64 bits
+digits-in-room-of : (more n : ℕ) → length (digitsIn more n) ≤ more
+digits-in-room-of zero n = rw digits-in-none (omega arith)
+digits-in-room-of (suc more) n = go (ltb n 10) refl (digits-in-room-of more (n / 10))
+  where
+    go : (b : Bool) → ltb n 10 ≡ b → length (digitsIn more (n / 10)) ≤ more → length (digitsIn (suc more) n) ≤ suc more
+    go true e less = rw (digits-in-short more n (ltb-true n 10 e)) (omega arith)
+    go false e less = rw (digits-in-long more n (ltb-false n 10 e), length-append) (omega arith)
+
+pub digits-room : (n : ℕ) → length (digits n) ≤ 20
+unfolding digits
+digits-room n = digits-in-room-of 20 n
+
 -- ---- a line, written from its letter on
 pub line-one : (letter a : ℕ) → line letter (a ∷ []) ≡ ((letter ∷ []) ++ (32 ∷ digits a)) ++ (10 ∷ [])
 unfolding line
@@ -91,61 +108,116 @@ pub share-line-most : (n share : ℕ) → n < 100 → share < 2 ^ 32 → length 
 share-line-most n share h f =
     omega (arith, line-two-length 80 n share, digits-most 1 n (omega arith), digits-most 9 share (omega arith))
 
-number-most : (x : Refusal) → number x < 100
-number-most (BadTree f) = omega arith
-number-most ThinTree = omega arith
-number-most BadRate = omega arith
-number-most NoLeaf = omega arith
-number-most BadBio = omega arith
-number-most TooDear = omega arith
-number-most QueueFull = omega arith
-number-most DebtFull = omega arith
-number-most TimeBack = omega arith
-number-most TimeFar = omega arith
-number-most ClockFull = omega arith
-number-most PlanDue = omega arith
-number-most FewPlaces = omega arith
-number-most NothingPassed = omega arith
-number-most BadVrate = omega arith
-number-most UnknownKind = omega arith
-number-most CutShort = omega arith
-number-most WrongPhase = omega arith
-number-most NotBelowRoot = omega arith
-number-most ShortBuffer = omega arith
+-- ---- a refusal: a fault of the tree, which names a node, or another, which names nothing
+pub record OfTree (x : Refusal) : Type 0 where
+  pub fault : Fault
+  pub is : x ≡ BadTree fault
 
-pub refusal-line-most : (x : Refusal) → length (refusalLine x) ≤ 5
+pub names-a-node-or-nothing : (x : Refusal) → OfTree x ⊎ (named x ≡ [])
+names-a-node-or-nothing (BadTree f) = inl (record { fault = f; is = refl })
+names-a-node-or-nothing ThinTree = inr refl
+names-a-node-or-nothing BadRate = inr refl
+names-a-node-or-nothing NoLeaf = inr refl
+names-a-node-or-nothing BadBio = inr refl
+names-a-node-or-nothing TooDear = inr refl
+names-a-node-or-nothing QueueFull = inr refl
+names-a-node-or-nothing DebtFull = inr refl
+names-a-node-or-nothing TimeBack = inr refl
+names-a-node-or-nothing TimeFar = inr refl
+names-a-node-or-nothing ClockFull = inr refl
+names-a-node-or-nothing PlanDue = inr refl
+names-a-node-or-nothing FewPlaces = inr refl
+names-a-node-or-nothing NothingPassed = inr refl
+names-a-node-or-nothing BadVrate = inr refl
+names-a-node-or-nothing UnknownKind = inr refl
+names-a-node-or-nothing CutShort = inr refl
+names-a-node-or-nothing WrongPhase = inr refl
+names-a-node-or-nothing NotBelowRoot = inr refl
+names-a-node-or-nothing ShortBuffer = inr refl
+
+fault-number-range : (f : Fault) → (faultNumber f < 100) × (faultNumber f ≡ 1 → ⊥)
+fault-number-range Sound = (omega arith, λ e. omega arith)
+fault-number-range Count = (omega arith, λ e. omega arith)
+fault-number-range (Parent n) = (omega arith, λ e. omega arith)
+fault-number-range (Weight n) = (omega arith, λ e. omega arith)
+fault-number-range (Level n) = (omega arith, λ e. omega arith)
+
+-- every number has two digits at most, and none is 1 any more
+pub number-range : (x : Refusal) → (number x < 100) × (number x ≡ 1 → ⊥)
+number-range (BadTree f) = fault-number-range f
+number-range ThinTree = (omega arith, λ e. omega arith)
+number-range BadRate = (omega arith, λ e. omega arith)
+number-range NoLeaf = (omega arith, λ e. omega arith)
+number-range BadBio = (omega arith, λ e. omega arith)
+number-range TooDear = (omega arith, λ e. omega arith)
+number-range QueueFull = (omega arith, λ e. omega arith)
+number-range DebtFull = (omega arith, λ e. omega arith)
+number-range TimeBack = (omega arith, λ e. omega arith)
+number-range TimeFar = (omega arith, λ e. omega arith)
+number-range ClockFull = (omega arith, λ e. omega arith)
+number-range PlanDue = (omega arith, λ e. omega arith)
+number-range FewPlaces = (omega arith, λ e. omega arith)
+number-range NothingPassed = (omega arith, λ e. omega arith)
+number-range BadVrate = (omega arith, λ e. omega arith)
+number-range UnknownKind = (omega arith, λ e. omega arith)
+number-range CutShort = (omega arith, λ e. omega arith)
+number-range WrongPhase = (omega arith, λ e. omega arith)
+number-range NotBelowRoot = (omega arith, λ e. omega arith)
+number-range ShortBuffer = (omega arith, λ e. omega arith)
+
+pub refusal-line-most : (x : Refusal) → length (refusalLine x) ≤ refusalRoom
 unfolding refusalLine
-refusal-line-most x = omega (arith, line-one-length 82 (number x), digits-most 1 (number x) (number-most x))
+refusal-line-most x =
+    ⊎-elim
+    (λ (w : OfTree x).
+    rw (w .is)
+    (omega (arith, line-two-length 82 (faultNumber (w .fault)) (faultNode (w .fault)), digits-most 1 (faultNumber (w .fault)) (fault-number-range (w .fault) .0), digits-room (faultNode (w .fault)))))
+    (λ (e : named x ≡ []). rw e (omega (arith, line-one-length 82 (number x), digits-most 1 (number x) (number-range x .0))))
+    (names-a-node-or-nothing x)
 
 pub refusal-line-some : (x : Refusal) → refusalLine x ≡ [] → ⊥
-unfolding refusalLine
-refusal-line-some x e = omega (arith, line-one-length 82 (number x), ap length e)
+unfolding refusalLine line
+refusal-line-some x e = omega (arith, ap length e)
 
 -- a line R tells its number
 two-digits : (n : ℕ) → 10 ≤ n → n < 100 → digits n ≡ (48 + n / 10) ∷ (48 + n % 10) ∷ []
 two-digits n l h =
     rw (digits-long n l (omega arith), digits-short (n / 10) (tenth-below 1 n h))
 
-line-tells : (letter a b : ℕ) → a < 100 → b < 100 → line letter (a ∷ []) ≡ line letter (b ∷ []) → a ≡ b
-line-tells letter a b h k e = go (ltb a 10) (ltb b 10) refl refl (sym (line-one letter a) ∙ e ∙ line-one letter b)
+-- what stands behind the first number of a line is no digit
+behind-first : (ns : List ℕ) → getD (numbers ns ++ (10 ∷ [])) 0 0 ≤ 32
+behind-first [] = omega arith
+behind-first (n ∷ ns) = omega arith
+
+line-begins : (letter a : ℕ) (ns : List ℕ) → line letter (a ∷ ns) ≡ letter ∷ 32 ∷ (digits a ++ (numbers ns ++ (10 ∷ [])))
+unfolding line
+line-begins letter a ns = ap (λ (l : List ℕ). letter ∷ 32 ∷ l) (append-assoc (digits a) (numbers ns) (10 ∷ []))
+
+line-tells : (letter a b : ℕ) (ms ns : List ℕ) → a < 100 → b < 100 → line letter (a ∷ ms) ≡ line letter (b ∷ ns) → a ≡ b
+line-tells letter a b ms ns h k e =
+    go (ltb a 10) (ltb b 10) refl refl (behind-first ms) (behind-first ns) (sym (line-begins letter a ms) ∙ e ∙ line-begins letter b ns)
   where
-    go : (c d : Bool) → ltb a 10 ≡ c → ltb b 10 ≡ d → ((letter ∷ []) ++ (32 ∷ digits a)) ++ (10 ∷ []) ≡ ((letter ∷ []) ++ (32 ∷ digits b)) ++ (10 ∷ []) → a ≡ b
-    go true true p q f =
+    more : List ℕ → List ℕ
+    more l = numbers l ++ (10 ∷ [])
+
+    go : (c d : Bool) → ltb a 10 ≡ c → ltb b 10 ≡ d → getD (more ms) 0 0 ≤ 32 → getD (more ns) 0 0 ≤ 32
+        → letter ∷ 32 ∷ (digits a ++ more ms) ≡ letter ∷ 32 ∷ (digits b ++ more ns) → a ≡ b
+    go true true p q i j f =
         let x = rw (digits-short a (ltb-true a 10 p), digits-short b (ltb-true b 10 q)) at f in
         omega (arith, ap (λ (l : List ℕ). getD l 2 0) x)
-    go true false p q f =
+    go true false p q i j f =
         let x = rw (digits-short a (ltb-true a 10 p), two-digits b (ltb-false b 10 q) k) at f in
-        absurd (omega (arith, ap length x))
-    go false true p q f =
+        absurd (omega (arith, ap (λ (l : List ℕ). getD l 3 0) x))
+    go false true p q i j f =
         let x = rw (two-digits a (ltb-false a 10 p) h, digits-short b (ltb-true b 10 q)) at f in
-        absurd (omega (arith, ap length x))
-    go false false p q f =
+        absurd (omega (arith, ap (λ (l : List ℕ). getD l 3 0) x))
+    go false false p q i j f =
         let x = rw (two-digits a (ltb-false a 10 p) h, two-digits b (ltb-false b 10 q) k) at f in
         omega (arith, ap (λ (l : List ℕ). getD l 2 0) x, ap (λ (l : List ℕ). getD l 3 0) x)
 
 pub refusal-line-tells : (x y : Refusal) → refusalLine x ≡ refusalLine y → number x ≡ number y
 unfolding refusalLine
-refusal-line-tells x y e = line-tells 82 (number x) (number y) (number-most x) (number-most y) e
+refusal-line-tells x y e = line-tells 82 (number x) (number y) (named x) (named y) (number-range x .0) (number-range y .0) e
 
 -- ---- releases, one after the other
 pub releases-append : (a b : List ℕ) → releaseLines (a ++ b) ≡ releaseLines a ++ releaseLines b

@@ -13,7 +13,8 @@ use Rattle.rules.specs.Cost.{priced, costOf}
 use Rattle.rules.specs.Budget.{wouldBe, submission}
 use Rattle.rules.specs.Tick.{growth, releases}
 use Rattle.rules.specs.Trace.{layout, recordBytes, writing, fieldsFrom, behind, readAt}
-use Rattle.rules.specs.Refusals.{_⇒_, paper, paperOf, due, unless, numbersOf, firstOf, verdictNumber, answerValues, modelValues, answerPaper, countPaper, pricingPaper, costingPaper, readPaper, writePaper, treeChecks, nodeChecks, rateChecks, startChecks, costChecks, roomChecks, submitChecks, tickChecks, planChecks, vrateChecks, weightChecks, readChecks, valuesAt, writeChecks}
+use Rattle.rules.specs.Tree.{treeFault, newestFault}
+use Rattle.rules.specs.Refusals.{_⇒_, faultNumber, paper, paperOf, unless, verdictPaper, numbersOf, firstOf, verdictNumber, answerValues, modelValues, answerPaper, countPaper, pricingPaper, costingPaper, readPaper, writePaper, treeChecks, nodeChecks, rateChecks, startChecks, costChecks, roomChecks, submitChecks, tickChecks, planChecks, vrateChecks, weightChecks, readChecks, valuesAt, writeChecks}
 use Rattle.rules.specs.Entries.{pricingBy, pricing, treeVerdict, costingBy, costing, started, submittedBy, submitted, tickedBy, ticked, planned, vrated, weighted}
 use Rattle.rules.specs.Laws.Passes.{start-answers, plan-answers, vrate-answers, weighted-answers}
 use Rattle.rules.specs.Laws.Answers.{answer-is-no-refusal}
@@ -41,11 +42,11 @@ use Rattle.rules.specs.declared.trace.Read.{Read}
 use Rattle.rules.specs.declared.trace.Write.{Write}
 use Rattle.rules.specs.declared.trace.Write.the-variants.{Wrote, Refused as Unwritten}
 
-pub node-refusals : (t : Tree) → numbersOf (nodeChecks t) ≡ 1 ∷ []
+pub node-refusals : (t : Tree) → numbersOf (nodeChecks t) ≡ faultNumber (newestFault t) ∷ []
 unfolding nodeChecks
 node-refusals t = refl
 
-pub start-refusals : (t : Tree) (r : Rates) → numbersOf (startChecks t r) ≡ 1 ∷ 2 ∷ 3 ∷ []
+pub start-refusals : (t : Tree) (r : Rates) → numbersOf (startChecks t r) ≡ faultNumber (treeFault t) ∷ 2 ∷ 3 ∷ []
 unfolding startChecks treeChecks rateChecks
 start-refusals t r = refl
 
@@ -65,7 +66,7 @@ pub vrate-refusals : (v : ℕ) → numbersOf (vrateChecks v) ≡ 15 ∷ []
 unfolding vrateChecks
 vrate-refusals v = refl
 
-pub weight-refusals : (n w : ℕ) (t : Tree) → numbersOf (weightChecks n w t) ≡ 19 ∷ 1 ∷ 2 ∷ []
+pub weight-refusals : (n w : ℕ) (t : Tree) → numbersOf (weightChecks n w t) ≡ 19 ∷ 22 ∷ 2 ∷ []
 unfolding weightChecks
 weight-refusals n w t = refl
 
@@ -99,15 +100,15 @@ cost-on-paper m row b e = ap costingPaper e ∙ go (firstOf (costChecks m row b)
     go Accepted = refl
     go (Refused x) = refl
 
-pub check-on-paper : (t : Tree) {r : Verdict} → r ≡ treeVerdict t → verdictNumber r ≡ due (treeChecks t)
+pub check-on-paper : (t : Tree) {r : Verdict} → r ≡ treeVerdict t → verdictPaper r ≡ paperOf (treeChecks t) []
 unfolding treeVerdict
-check-on-paper t e = ap verdictNumber e
+check-on-paper t e = ap verdictPaper e
 
 -- of a call that answers a verdict, by the outcome of its rule
-verdict-on-paper : {r o : Outcome} {v : Verdict} → o .answer ≡ v → r ≡ o → verdictNumber (r .answer) ≡ verdictNumber v
-verdict-on-paper i e = ap (λ (o : Outcome). verdictNumber (o .answer)) e ∙ ap verdictNumber i
+verdict-on-paper : {r o : Outcome} {v : Verdict} → o .answer ≡ v → r ≡ o → verdictPaper (r .answer) ≡ verdictPaper v
+verdict-on-paper i e = ap (λ (o : Outcome). verdictPaper (o .answer)) e ∙ ap verdictPaper i
 
-pub start-on-paper : (t : Tree) (rates : Rates) (time : ℕ) {r : Outcome} → r ≡ started t rates time → verdictNumber (r .answer) ≡ due (startChecks t rates)
+pub start-on-paper : (t : Tree) (rates : Rates) (time : ℕ) {r : Outcome} → r ≡ started t rates time → verdictPaper (r .answer) ≡ paperOf (startChecks t rates) []
 start-on-paper t rates time = verdict-on-paper (start-answers t rates time)
 
 -- issued, waits and on debt are no refusals
@@ -136,13 +137,13 @@ tick-on-paper time lent c e = ap (λ (o : Ticked). countPaper (o .answer)) e ∙
     go Accepted = refl
     go (Refused x) = refl
 
-pub plan-on-paper : (c : Controller) {r : Outcome} → r ≡ planned c → verdictNumber (r .answer) ≡ due (planChecks c)
+pub plan-on-paper : (c : Controller) {r : Outcome} → r ≡ planned c → verdictPaper (r .answer) ≡ paperOf (planChecks c) []
 plan-on-paper c = verdict-on-paper (plan-answers c)
 
-pub vrate-on-paper : (v : ℕ) (c : Controller) {r : Outcome} → r ≡ vrated v c → verdictNumber (r .answer) ≡ due (vrateChecks v)
+pub vrate-on-paper : (v : ℕ) (c : Controller) {r : Outcome} → r ≡ vrated v c → verdictPaper (r .answer) ≡ paperOf (vrateChecks v) []
 vrate-on-paper v c = verdict-on-paper (vrate-answers v c)
 
-pub weight-on-paper : (n w : ℕ) (c : Controller) {r : Outcome} → r ≡ weighted n w c → verdictNumber (r .answer) ≡ due (weightChecks n w (c .tree))
+pub weight-on-paper : (n w : ℕ) (c : Controller) {r : Outcome} → r ≡ weighted n w c → verdictPaper (r .answer) ≡ paperOf (weightChecks n w (c .tree)) []
 weight-on-paper n w c = verdict-on-paper (weighted-answers n w c)
 
 -- ---- a place of a trace, and a lent buffer

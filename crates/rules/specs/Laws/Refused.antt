@@ -19,6 +19,7 @@ use Rattle.rules.specs.Entries.{submittedBy, submitted, tickedBy, ticked
 use Rattle.rules.specs.Laws.Bools.{never, true-not-false, exactly, exactly-both, exactly-not, at-most, between}
 use Rattle.rules.specs.Laws.Costs.{BioInRange, bio-in-range, RatesInRange, rates-in-range}
 use Rattle.rules.specs.Laws.TreeVerdicts.{sound-when}
+use Rattle.rules.specs.Laws.Faults.{CountInRange, FirstSays, TreeSays, the-first-bad-node, fault-given, no-fault's-number, thin-and-rates-lack}
 use Rattle.rules.specs.Laws.Passes.{start-answers, plan-answers, vrate-answers, weighted-answers}
 use Rattle.rules.specs.Laws.Answers.{answer-is-no-refusal}
 use Rattle.rules.specs.Laws.Verdicts.{lacks, accepted-is-not-refused, not-given, given-exactly-when}
@@ -27,7 +28,7 @@ use Rattle.rules.specs.declared.cost.Rates.{Rates}
 use Rattle.rules.specs.declared.cost.Bio.{Bio}
 use Rattle.rules.specs.declared.tree.Tree.{Tree}
 use Rattle.rules.specs.declared.tree.Fault.{Fault}
-use Rattle.rules.specs.declared.tree.Fault.the-variants.{Sound as NoFault, Weight}
+use Rattle.rules.specs.declared.tree.Fault.the-variants.{Sound as NoFault, Count, Parent, Weight, Level}
 use Rattle.rules.specs.declared.budget.Controller.{Controller}
 use Rattle.rules.specs.declared.refusals.Refusal.{Refusal}
 use Rattle.rules.specs.declared.refusals.Refusal.the-variants.{BadTree, ThinTree, BadRate, NoLeaf, BadBio, TooDear, QueueFull, DebtFull, TimeBack, TimeFar, ClockFull, PlanDue, FewPlaces, NothingPassed, BadVrate, NotBelowRoot}
@@ -264,7 +265,7 @@ refusal-15-exactly-when v c =
     (exactly (given-exactly-when [] (not (leb vrateLeast v && leb v vrateMost)) BadVrate [] refl refl)
     (λ w. out .0 (not-true _ (w .1)), λ w. (tt, rw (out .1 w))))
 
--- ---- the refusals of a weight: 19, then 1, then 2
+-- ---- the refusals of a weight: 19, then 22, then 2
 weight-refuses : (n w : ℕ) (c : Controller) (x : Refusal) → (weighted n w c .answer ≡ Refused x) ↔ (firstOf (weightChecks n w (c .tree)) ≡ Refused x)
 weight-refuses n w c = as-its-checks (weighted-answers n w c)
 
@@ -301,9 +302,9 @@ module _ (n w : ℕ) (c : Controller) where
       (exactly (given-exactly-when [] (not (isBelowRoot (c .tree) n)) NotBelowRoot (bad-weight ∷ too-thin ∷ []) refl refl)
       (λ h. out .0 (not-true _ (h .1)), λ h. (tt, rw (out .1 h))))
 
-  pub a-weight-is-refused-1-exactly-when : (weighted n w c .answer ≡ Refused (BadTree (Weight n))) ↔ (BelowRoot × (WeightInRange → ⊥))
+  pub a-weight-is-refused-22-exactly-when : (weighted n w c .answer ≡ Refused (BadTree (Weight n))) ↔ (BelowRoot × (WeightInRange → ⊥))
   unfolding weightChecks not-below-root too-thin
-  a-weight-is-refused-1-exactly-when =
+  a-weight-is-refused-22-exactly-when =
       let out = exactly-not (weightInRange w) weight-in-range in
       exactly (weight-refuses n w c (BadTree (Weight n)))
       (exactly (given-exactly-when (not-below-root ∷ []) (not (weightInRange w)) (BadTree (Weight n)) (too-thin ∷ []) refl refl) (
@@ -329,27 +330,34 @@ start-refuses t r time = as-its-checks (start-answers t r time)
 fault-test : (f : Fault) → (isFault f ≡ false) ↔ (f ≡ NoFault)
 fault-test f = (sound-when f, λ e. rw e)
 
-fault-given : (f g : Fault) (rest : List Check) → lacks 1 rest ≡ true
-    → (firstOf ((isFault g ⇒ BadTree g) ∷ rest) ≡ Refused (BadTree f)) ↔ ((g ≡ f) × (isFault f ≡ true))
-fault-given f g rest l = go (isFault g) refl
-  where
-    go : (b : Bool) → isFault g ≡ b → (cond b (Refused (BadTree g)) (firstOf rest) ≡ Refused (BadTree f)) ↔ ((g ≡ f) × (isFault f ≡ true))
-    go true h = (λ e. let i : g ≡ f = cc in (i, rw i at h), λ w. ap (λ (k : Fault). Refused (BadTree k)) (w .0))
-    go false h = (λ e. absurd (not-given (BadTree f) rest l e), λ w. absurd (true-not-false (w .1) (rw (w .0) at h)))
-
 module _ (t : Tree) (r : Rates) (time : ℕ) where
-  -- 1 carries the first fault of the tree
-  pub refusal-1-exactly-when : (f : Fault) → (started t r time .answer ≡ Refused (BadTree f)) ↔ ((treeFault t ≡ f) × (isFault f ≡ true))
+  -- 20 to 23 carry the first fault of the tree
+  start-names : (f : Fault) → (started t r time .answer ≡ Refused (BadTree f)) ↔ ((treeFault t ≡ f) × (isFault f ≡ true))
   unfolding startChecks treeChecks rateChecks
-  refusal-1-exactly-when f =
+  start-names f =
       exactly (start-refuses t r time (BadTree f))
-      (fault-given f (treeFault t) ((isThin t ⇒ ThinTree) ∷ (not (ratesInRange r) ⇒ BadRate) ∷ []) refl)
+      (fault-given f (treeFault t) ((isThin t ⇒ ThinTree) ∷ (not (ratesInRange r) ⇒ BadRate) ∷ []) (thin-and-rates-lack f (isThin t) (not (ratesInRange r))))
+
+  start-says : (f : Fault) → isFault f ≡ true → (started t r time .answer ≡ Refused (BadTree f)) ↔ TreeSays t f
+  start-says f i = exactly (start-names f) (exactly (λ w. w .0, λ e. (e, i)) (the-first-bad-node t f i))
+
+  pub refusal-20-exactly-when : (started t r time .answer ≡ Refused (BadTree Count)) ↔ (CountInRange t → ⊥)
+  refusal-20-exactly-when = start-says Count refl
+
+  pub refusal-21-exactly-when : (n : ℕ) → (started t r time .answer ≡ Refused (BadTree (Parent n))) ↔ FirstSays t (Parent n)
+  refusal-21-exactly-when n = start-says (Parent n) refl
+
+  pub refusal-22-exactly-when : (n : ℕ) → (started t r time .answer ≡ Refused (BadTree (Weight n))) ↔ FirstSays t (Weight n)
+  refusal-22-exactly-when n = start-says (Weight n) refl
+
+  pub refusal-23-exactly-when : (n : ℕ) → (started t r time .answer ≡ Refused (BadTree (Level n))) ↔ FirstSays t (Level n)
+  refusal-23-exactly-when n = start-says (Level n) refl
 
   pub refusal-2-exactly-when : (started t r time .answer ≡ Refused ThinTree) ↔ ((treeFault t ≡ NoFault) × (isThin t ≡ true))
   unfolding startChecks treeChecks rateChecks
   refusal-2-exactly-when =
       let g =
-      given-exactly-when ((isFault (treeFault t) ⇒ BadTree (treeFault t)) ∷ []) (isThin t) ThinTree ((not (ratesInRange r) ⇒ BadRate) ∷ []) refl refl in
+      given-exactly-when ((isFault (treeFault t) ⇒ BadTree (treeFault t)) ∷ []) (isThin t) ThinTree ((not (ratesInRange r) ⇒ BadRate) ∷ []) (rw (no-fault's-number (treeFault t) 2 (omega arith) (omega arith))) refl in
       exactly (start-refuses t r time ThinTree)
       (exactly g (λ w. (fault-test (treeFault t) .0 (w .0 .0), w .1), λ w. ((fault-test (treeFault t) .1 (w .0), tt), w .1)))
 
@@ -358,7 +366,7 @@ module _ (t : Tree) (r : Rates) (time : ℕ) where
   unfolding startChecks treeChecks rateChecks
   refusal-3-exactly-when =
       let g =
-      given-exactly-when ((isFault (treeFault t) ⇒ BadTree (treeFault t)) ∷ (isThin t ⇒ ThinTree) ∷ []) (not (ratesInRange r)) BadRate [] refl refl in
+      given-exactly-when ((isFault (treeFault t) ⇒ BadTree (treeFault t)) ∷ (isThin t ⇒ ThinTree) ∷ []) (not (ratesInRange r)) BadRate [] (rw (no-fault's-number (treeFault t) 3 (omega arith) (omega arith))) refl in
       let out = exactly-not (ratesInRange r) (rates-in-range r) in
       exactly (start-refuses t r time BadRate) (exactly g (
         λ w. (fault-test (treeFault t) .0 (w .0 .0), w .0 .1 .0, out .0 (not-true _ (w .1))),

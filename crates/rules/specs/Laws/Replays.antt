@@ -22,8 +22,9 @@ use Rattle.rules.specs.Invariant.{Sound, Playing}
 use Rattle.rules.specs.Laws.Bools.{never, true-not-false, is-false}
 use Rattle.rules.specs.Laws.Verdicts.{lacks, not-given}
 use Rattle.rules.specs.Laws.Lines.{refusal-line-tells, refusal-line-some}
+use Rattle.rules.specs.Laws.Faults.{no-fault's-number}
 use Rattle.rules.specs.Laws.Passes.{check-passed, start-answers}
-use Rattle.rules.specs.Laws.Trees.{parent-is, node-sound}
+use Rattle.rules.specs.Laws.Trees.{SoundNode, parent-is, node-sound}
 use Rattle.rules.specs.Laws.TreeVerdicts.{sound-when}
 use Rattle.rules.specs.Laws.Starts.{start-gives}
 use Rattle.rules.specs.Laws.Settings.{set-keeps}
@@ -64,13 +65,13 @@ beginning-plays = record {
 
 -- ---- a node more: those before it keep their parents, and an accepted one has a parent before it
 -- what an accepted node record has passed
-accepted-newest : (t : Tree) → firstOf (nodeChecks t) ≡ Accepted → (t .count ≤ nodesMost) × (parent t (last t) < last t)
+pub accepted-newest : (t : Tree) → firstOf (nodeChecks t) ≡ Accepted → (t .count ≤ nodesMost) × SoundNode t (last t)
 unfolding nodeChecks newestFault
 accepted-newest t e = go (leb (t .count) nodesMost) refl (sound-when (newestFault t) (check-passed _ _ _ e .0))
   where
     go : (b : Bool) → leb (t .count) nodesMost ≡ b → cond b (nodeFault t (last t)) Count ≡ NoFault
-        → (t .count ≤ nodesMost) × (parent t (last t) < last t)
-    go true l f = (leb-true (t .count) nodesMost l, node-sound t (last t) f .up)
+        → (t .count ≤ nodesMost) × SoundNode t (last t)
+    go true l f = (leb-true (t .count) nodesMost l, node-sound t (last t) f)
     go false l f = never (cc)
 
 module _ {s : Replay} (h : Playing s) where
@@ -97,7 +98,7 @@ module _ {s : Replay} (h : Playing s) where
         most = newest .0;
         up = λ n a b.
             ⊎-elim
-            (λ (i : n ≡ last (grown p w (s .tree))). rw i (newest .1))
+            (λ (i : n ≡ last (grown p w (s .tree))). rw i (newest .1 .up))
             (λ (l : n < last (grown p w (s .tree))). rw (parent-is (grown p w (s .tree)) n a) (node-climbs p w n a (omega arith)))
             (eq-or-lt-of-le b);
         state = h .state;
@@ -196,7 +197,7 @@ module _ (s : Replay) (goes : isStopped (s .phase) ≡ false) where
   unfolding recordStep nodeStep modelStep startStep nodeChecks rateChecks startChecks treeChecks
   setup-step (Node p w) k = record {
     checks = nodeChecks (grown p w (s .tree));
-    no-18 = refl;
+    no-18 = rw (no-fault's-number (newestFault (grown p w (s .tree))) 18 (omega arith) (omega arith));
     step = λ v. nodeStep v (grown p w (s .tree)) s;
     same = refl;
     quiet = refl;
@@ -214,7 +215,7 @@ module _ (s : Replay) (goes : isStopped (s .phase) ≡ false) where
   }
   setup-step (Start time) k = record {
     checks = startChecks (s .tree) (s .rates);
-    no-18 = refl;
+    no-18 = rw (no-fault's-number (treeFault (s .tree)) 18 (omega arith) (omega arith));
     step = λ v. startStep v (started (s .tree) (s .rates) time .state) s;
     same = rw (start-answers (s .tree) (s .rates) time);
     quiet = refl;

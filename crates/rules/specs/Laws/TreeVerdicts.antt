@@ -1,5 +1,5 @@
--- What the check of a tree answers: 1 exactly when a tree rule is broken, 2 exactly when the tree is thin, accepted exactly when
--- neither.
+-- What the check of a tree answers: 20 to 23 exactly when a tree rule is broken, 2 exactly when the tree is thin, accepted exactly
+-- when neither.
 -- Assumes nothing.
 use mathlib.Core.Path.{_≡_, refl, sym, ap, _∙_}
 use mathlib.Core.Bool.{Bool, true, false, cond}
@@ -60,7 +60,7 @@ module _ (t : Tree) where
   pub fine-tree : isFault (treeFault t) ≡ false → isThin t ≡ false → treeVerdict t ≡ Accepted
   fine-tree e f = verdict-by false false e f
 
-  -- refusal 1: ".. breaks the tree rules"
+  -- refusals 20 to 23: ".. breaks the tree rules"
   pub refused-exactly-when-broken : (f : Fault) → (treeVerdict t ≡ Refused (BadTree f)) ↔ ((treeFault t ≡ f) × (f ≡ Sound → ⊥))
   refused-exactly-when-broken f = (
     go (isFault (treeFault t)) (isThin t) refl refl,

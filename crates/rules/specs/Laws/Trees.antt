@@ -75,7 +75,7 @@ node-sound t n e =
       shallow = ltb-false levelMost (level t n) (c .0);
     }
 
-sound-node : (t : Tree) (n : ℕ) → SoundNode t n → nodeFault t n ≡ Sound
+pub sound-node : (t : Tree) (n : ℕ) → SoundNode t n → nodeFault t n ≡ Sound
 unfolding nodeFault weightInRange
 sound-node t n s =
     rw (
@@ -94,7 +94,7 @@ nodes-sound t (suc m) e n p q =
     (λ (l : n < suc m). nodes-sound t m (earlier-left (faultTo t m) (nodeFault t (suc m)) e) n p (omega arith))
     (eq-or-lt-of-le q)
 
-sound-nodes : (t : Tree) (m : ℕ) → ((n : ℕ) → 0 < n → n ≤ m → SoundNode t n) → faultTo t m ≡ Sound
+pub sound-nodes : (t : Tree) (m : ℕ) → ((n : ℕ) → 0 < n → n ≤ m → SoundNode t n) → faultTo t m ≡ Sound
 unfolding faultTo
 sound-nodes t zero h = refl
 sound-nodes t (suc m) h =

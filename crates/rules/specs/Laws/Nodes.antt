@@ -1,0 +1,152 @@
+-- The nodes that a trace has given so far: each was without fault when it came and stays so, and a faulty record names the next.
+-- Assumes nothing.
+use mathlib.Core.Path.{_≡_, refl, sym, ap, _∙_}
+use mathlib.Core.Bool.{Bool, true, false, cond}
+use mathlib.Core.Logic.{_↔_, ⊎-elim}
+use mathlib.Core.List.{List, [], _∷_}
+use Prim.Native.Nat.{ℕ, zero, suc, _+_, _-_, _≤_, _<_}
+use native.Mathlib.Nat.{eq-or-lt-of-le}
+use native.Mathlib.Omega.{arith}
+use lib.Seq.{getD-set-other}
+use Rattle.rules.specs.Tree.{parent, weight, last, levelIn, level, newestFault}
+use Rattle.rules.specs.Refusals.{faultNode, firstOf, isFault, nodeChecks, rateChecks}
+use Rattle.rules.specs.Entries.{started}
+use Rattle.rules.specs.Trace.{kindOf}
+use Rattle.rules.specs.Replay.{inPhase, isStopped, stopsAt, silent, beginning, grown, nodeStep, modelStep, startStep, recordStep, readStep, stepped}
+use Rattle.rules.specs.Invariant.{SoundTree, Playing}
+use Rattle.rules.specs.Laws.Trees.{SoundNode, parent-is}
+use Rattle.rules.specs.Laws.Replays.{accepted-newest, stepped-plays}
+use Rattle.rules.specs.Laws.Faults.{Says, NewestSays, a-node's-first-fault, a-node-record's-fault, fault-given}
+use Rattle.rules.specs.declared.tree.Tree.{Tree}
+use Rattle.rules.specs.declared.tree.Fault.{Fault}
+use Rattle.rules.specs.declared.tree.Fault.the-variants.{Sound, Count, Parent, Weight, Level}
+use Rattle.rules.specs.declared.refusals.Refusal.the-variants.{BadTree, WrongPhase}
+use Rattle.rules.specs.declared.refusals.Verdict.{Verdict}
+use Rattle.rules.specs.declared.refusals.Verdict.the-variants.{Accepted, Refused}
+use Rattle.rules.specs.declared.trace.Record.{Record}
+use Rattle.rules.specs.declared.trace.Record.the-variants.{Node, Model as ModelOf, Start, Bio as BioOf, Tick, Plan, Vrate, Weight as WeightOf}
+use Rattle.rules.specs.declared.trace.Read.{Read}
+use Rattle.rules.specs.declared.trace.Read.the-variants.{Found, End, Refused as Unread}
+use Rattle.rules.specs.declared.replay.Replay.{Replay}
+
+-- ---- a node more changes nothing of those before it
+module _ (p w : ℕ) (t : Tree) where
+  parent-stays : (k : ℕ) → k < t .count → parent (grown p w t) k ≡ parent t k
+  unfolding parent
+  parent-stays zero l = refl
+  parent-stays (suc k) l = getD-set-other (t .parents) (t .count) (suc k) p 0 (λ e. omega arith)
+
+  weight-stays : (k : ℕ) → k < t .count → weight (grown p w t) k ≡ weight t k
+  unfolding weight
+  weight-stays k l = getD-set-other (t .weights) (t .count) k w 0 (λ e. omega arith)
+
+  module _ (up : (k : ℕ) → 0 < k → k < t .count → parent t k < k) where
+    level-in-stays : (f k : ℕ) → k < t .count → levelIn f (grown p w t) k ≡ levelIn f t k
+    unfolding levelIn
+    level-in-stays zero k l = refl
+    level-in-stays (suc f) zero l = refl
+    level-in-stays (suc f) (suc k) l =
+        let u : parent t (suc k) < suc k = up (suc k) (omega arith) l in
+        ap suc (ap (levelIn f (grown p w t)) (parent-stays (suc k) l) ∙ level-in-stays f (parent t (suc k)) (omega arith))
+
+    level-stays : (k : ℕ) → k < t .count → level (grown p w t) k ≡ level t k
+    unfolding level
+    level-stays k l = level-in-stays k k l
+
+  module _ (some : 0 < t .count) (sound : SoundTree t) where
+    pub node-stays-sound : (k : ℕ) → 0 < k → k < t .count → SoundNode (grown p w t) k
+    unfolding last
+    node-stays-sound k a l =
+        let inside : k ≤ t .count - 1 = omega arith in
+        record {
+          up = rw (parent-stays k l) (sound .up k a inside);
+          light = rw (weight-stays k l) (sound .light k a inside);
+          heavy = rw (weight-stays k l) (sound .heavy k a inside);
+          shallow = rw (level-stays (λ j b m. sound .up j b (omega arith)) k l) (sound .shallow k a inside);
+        }
+
+    grown-sound : firstOf (nodeChecks (grown p w t)) ≡ Accepted → SoundTree (grown p w t)
+    unfolding last
+    grown-sound e =
+        let newest = accepted-newest (grown p w t) e in
+        let node : (n : ℕ) → 0 < n → n ≤ last (grown p w t) → SoundNode (grown p w t) n =
+        λ n a b.
+        ⊎-elim
+        (λ (i : n ≡ last (grown p w t)). rw i (newest .1))
+        (λ (l : n < last (grown p w t)). node-stays-sound n a (omega arith))
+        (eq-or-lt-of-le b) in
+        record {
+          most = newest .0;
+          up = λ n a b. node n a b .up;
+          light = λ n a b. node n a b .light;
+          heavy = λ n a b. node n a b .heavy;
+          shallow = λ n a b. node n a b .shallow;
+        }
+
+-- ---- so a replay holds no faulty node
+pub beginning-nodes : SoundTree (beginning .tree)
+unfolding last
+beginning-nodes = record {
+  most = omega arith;
+  up = λ n a b. absurd (omega arith);
+  light = λ n a b. absurd (omega arith);
+  heavy = λ n a b. absurd (omega arith);
+  shallow = λ n a b. absurd (omega arith);
+}
+
+module _ (s : Replay) (h : Playing s) (sound : SoundTree (s .tree)) where
+  record-keeps-nodes : (r : Record) → SoundTree (recordStep r s .replay .tree)
+  unfolding recordStep nodeStep modelStep startStep
+  record-keeps-nodes (Node p w) = go (firstOf (nodeChecks (grown p w (s .tree)))) refl
+    where
+      go : (v : Verdict) → firstOf (nodeChecks (grown p w (s .tree))) ≡ v → SoundTree (nodeStep v (grown p w (s .tree)) s .replay .tree)
+      go Accepted e = grown-sound p w (s .tree) (h .least) sound e
+      go (Refused x) e = sound
+  record-keeps-nodes (ModelOf r) = go (firstOf (rateChecks r))
+    where
+      go : (v : Verdict) → SoundTree (modelStep v r s .replay .tree)
+      go Accepted = sound
+      go (Refused x) = sound
+  record-keeps-nodes (Start time) = go (started (s .tree) (s .rates) time .answer)
+    where
+      go : (v : Verdict) → SoundTree (startStep v (started (s .tree) (s .rates) time .state) s .replay .tree)
+      go Accepted = sound
+      go (Refused x) = sound
+  record-keeps-nodes (BioOf b) = sound
+  record-keeps-nodes (Tick time) = sound
+  record-keeps-nodes Plan = sound
+  record-keeps-nodes (Vrate v) = sound
+  record-keeps-nodes (WeightOf n w) = sound
+
+  pub step-keeps-nodes : (read : Read) → SoundTree (stepped read s .replay .tree)
+  unfolding stepped readStep
+  step-keeps-nodes read = by-phase (isStopped (s .phase)) read
+    where
+      in-its-phase : (b : Bool) (r : Record) → SoundTree (cond b (recordStep r s) (stopsAt WrongPhase s) .replay .tree)
+      in-its-phase true r = record-keeps-nodes r
+      in-its-phase false r = sound
+
+      by-phase : (b : Bool) (read : Read) → SoundTree (cond b (silent s) (readStep read s) .replay .tree)
+      by-phase true read = sound
+      by-phase false (Found r next) = in-its-phase (inPhase (s .phase) (kindOf r)) r
+      by-phase false End = sound
+      by-phase false (Unread x) = sound
+
+  -- ---- a node record that is refused for its node: that is the next number, every node before it is without fault, and the fault
+  -- is the first of its own
+  pub a-faulty-record-names-its-node : (p w : ℕ) (f : Fault) → firstOf (nodeChecks (grown p w (s .tree))) ≡ Refused (BadTree f) → (f ≡ Count → ⊥)
+      → (faultNode f ≡ s .tree .count) × ((k : ℕ) → 0 < k → k < faultNode f → SoundNode (grown p w (s .tree)) k) × Says (grown p w (s .tree)) (faultNode f) f
+  unfolding nodeChecks last
+  a-faulty-record-names-its-node p w f e other =
+      let given = fault-given f (newestFault (grown p w (s .tree))) [] refl .0 e in
+      let says = newest-says f (given .1) other (a-node-record's-fault (grown p w (s .tree)) f (given .1) .0 (given .0)) in
+      let is : faultNode f ≡ s .tree .count = omega (arith, says .0) in
+      (is, λ k a l. node-stays-sound p w (s .tree) (h .least) sound k a (omega (arith, is)), rw (says .0) (says .1))
+    where
+      newest-says : (g : Fault) → isFault g ≡ true → (g ≡ Count → ⊥) → NewestSays (grown p w (s .tree)) g
+          → (faultNode g ≡ s .tree .count + 1 - 1) × Says (grown p w (s .tree)) (s .tree .count + 1 - 1) g
+      newest-says Sound i n q = absurd q
+      newest-says Count i n q = absurd (n refl)
+      newest-says (Parent k) i n q = (q .1 .0, q .1)
+      newest-says (Weight k) i n q = (q .1 .0, q .1)
+      newest-says (Level k) i n q = (q .1 .0, q .1)
