@@ -5,20 +5,47 @@ ghost use mathlib.Core.List.{[], _∷_, _++_};
 ghost use Prim.Native.Nat.{_+_, _*_, _≤_, _<_};
 ghost use lib.ListN.{length, take};
 ghost use Rattle.rules.specs.Numbers.{refusalRoom, idRoom, shareRoom, sharesRoom};
-ghost use Rattle.rules.specs.Refusals.{number};
+ghost use Rattle.rules.specs.Refusals.{faultNumber, faultNode, number};
 ghost use Rattle.rules.specs.Replay.{digits, line, refusalLine, answerLine, releaseLines, verdictLines, leafLine, shareLinesOf};
 ghost use Rattle.rules.specs.Buffers.{Written};
 use rules::refusals::Answer;
 use rules::refusals::Refusal;
 use rules::refusals::Verdict;
+use rules::tree::Fault;
 use sets::has;
+
+// The number of each fault of a tree; one that has none is not refused.
+fn fault_number(f: Fault) -> u64
+    ensures { λ r. ⌜ r ≡ faultNumber f ⌝ }
+{
+    match f {
+        Fault::Sound => 0,
+        Fault::Count => 20,
+        Fault::Parent(_) => 21,
+        Fault::Weight(_) => 22,
+        Fault::Level(_) => 23,
+    }
+}
+
+// The node that it names.
+fn fault_node(f: Fault) -> usize
+    ensures { λ r. ⌜ r ≡ faultNode f ⌝ }
+{
+    match f {
+        Fault::Sound => 0,
+        Fault::Count => 0,
+        Fault::Parent(n) => n,
+        Fault::Weight(n) => n,
+        Fault::Level(n) => n,
+    }
+}
 
 // The number of each refusal in the documents.
 pub fn number_of(x: Refusal) -> u64
     ensures { λ r. ⌜ r ≡ number x ⌝ }
 {
     match x {
-        Refusal::BadTree(_) => 1,
+        Refusal::BadTree(f) => fault_number(f),
         Refusal::ThinTree => 2,
         Refusal::BadRate => 3,
         Refusal::NoLeaf => 4,
@@ -120,17 +147,20 @@ fn put_leaf(active: u64, n: usize, share: u32, out: &mut [u8]) -> usize
     0
 }
 
-// R and the refusal's number.
+// R and the refusal's number, and of a fault of the tree its node: at most 26 bytes.
 pub fn put_refusal(x: Refusal, out: &mut [u8]) -> usize
     requires { ⌜ refusalRoom ≤ length (now out) ⌝ }
     ensures { λ r. ⌜ Written (refusalLine x) r (now (out .entry)) (now (out .exit)) ⌝ }
 {
-    put_line1(b'R', number_of(x), out)
+    match x {
+        Refusal::BadTree(f) => put_line2(b'R', fault_number(f), fault_node(f) as u64, out),
+        _ => put_line1(b'R', number_of(x), out),
+    }
 }
 
 // What a submission prints.
 pub fn put_answer(answer: Answer, id: u32, out: &mut [u8]) -> usize
-    requires { ⌜ idRoom ≤ length (now out) ⌝ }
+    requires { ⌜ refusalRoom ≤ length (now out) ⌝ }
     ensures { λ r. ⌜ Written (answerLine answer id) r (now (out .entry)) (now (out .exit)) ⌝ }
 {
     match answer {
