@@ -1,6 +1,7 @@
 // Where a controller begins, and its pace: start and vrate.
 ghost use mathlib.Core.Path.{_≡_};
-ghost use Rattle.rules.specs.Refusals.{firstOf, verdictNumber, due, startChecks, vrateChecks};
+ghost use mathlib.Core.List.{[]};
+ghost use Rattle.rules.specs.Refusals.{firstOf, verdictPaper, paperOf, startChecks, vrateChecks};
 ghost use Rattle.rules.specs.Entries.{started, slowestModel, noTree, vrated as vratedOf};
 ghost use Rattle.rules.specs.Budget.{fresh, withRate};
 ghost use Rattle.rules.specs.Plan.{vrateInRange};
@@ -57,7 +58,7 @@ fn refused(x: Refusal) -> Outcome
 // Start: refusals 1, 2 and 3 in that order, else the fresh state.
 pub fn start(tree: Tree, rates: Rates, time: u64) -> Outcome
     ensures { λ r. ⌜ r ≡ started tree rates time ⌝ }
-    ensures number { λ r. ⌜ verdictNumber (r .answer) ≡ due (startChecks tree rates) ⌝ }
+    ensures number { λ r. ⌜ verdictPaper (r .answer) ≡ paperOf (startChecks tree rates) [] ⌝ }
 {
     match tree::check(tree) {
         Verdict::Refused(x) => refused(x),
@@ -101,7 +102,7 @@ pub fn with_rate(mut clock: Clock, v: u16) -> Clock
 // Both together, for a caller that hands the state over; a caller that holds it changes its clock where it stands.
 pub fn vrate(mut c: Controller, v: u16) -> Outcome
     ensures { λ r. ⌜ r ≡ vratedOf v c ⌝ }
-    ensures number { λ r. ⌜ verdictNumber (r .answer) ≡ due (vrateChecks v) ⌝ }
+    ensures number { λ r. ⌜ verdictPaper (r .answer) ≡ paperOf (vrateChecks v) [] ⌝ }
 {
     let answer = vrate_verdict(v);
     if let Verdict::Accepted = answer {

@@ -1,6 +1,7 @@
 // One node's weight in flight: the tree moves, and with it the base shares of all active leaves.
 ghost use mathlib.Core.Path.{_≡_};
-ghost use Rattle.rules.specs.Refusals.{verdictNumber, due, weightChecks};
+ghost use mathlib.Core.List.{[]};
+ghost use Rattle.rules.specs.Refusals.{verdictPaper, paperOf, weightChecks};
 ghost use Rattle.rules.specs.Entries.{weighted};
 ghost use Rattle.rules.specs.Invariant.{Sound};
 use crate::shares::base_anew;
@@ -15,7 +16,7 @@ use tree::weights::with_weight;
 pub fn weight(mut c: Controller, node: u8, weight: u16) -> Outcome
     requires { ⌜ Sound c ⌝ }
     ensures { λ r. ⌜ r ≡ weighted node weight c ⌝ }
-    ensures number { λ r. ⌜ verdictNumber (r .answer) ≡ due (weightChecks node weight (c .tree)) ⌝ }
+    ensures number { λ r. ⌜ verdictPaper (r .answer) ≡ paperOf (weightChecks node weight (c .tree)) [] ⌝ }
 {
     let tree = c.tree;
     let answer = verdict(tree, node, weight);

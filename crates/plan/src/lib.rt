@@ -3,12 +3,13 @@
 // them would copy them: a step over rows is a loop there, and what it does to one leaf is a function here or in the crate
 // leaf.
 ghost use mathlib.Core.Path.{_≡_};
+ghost use mathlib.Core.List.{[]};
 ghost use mathlib.Core.Bool.{_&&_};
 ghost use Prim.Native.Nat.{_*_, _≤_, _<_};
 ghost use lib.Dec.{ltb};
 ghost use Rattle.rules.specs.Numbers.{sinceMost};
 ghost use Rattle.rules.specs.Plan.{isQuiet, forgiven as forgivenOf, restartedClock, plan as planOf};
-ghost use Rattle.rules.specs.Refusals.{verdictNumber, due, planChecks};
+ghost use Rattle.rules.specs.Refusals.{verdictPaper, paperOf, planChecks};
 ghost use Rattle.rules.specs.Entries.{planned};
 ghost use Rattle.rules.specs.Invariant.{worthMost, Sound};
 ghost use Rattle.leaf.specs.Alone.{staysWith, isDonorWith};
@@ -227,7 +228,7 @@ pub fn restarted(mut clock: Clock) -> Clock
 pub fn plan(mut c: Controller) -> Outcome
     requires { ⌜ Sound c ⌝ }
     ensures { λ r. ⌜ r ≡ planned c ⌝ }
-    ensures number { λ r. ⌜ verdictNumber (r .answer) ≡ due (planChecks c) ⌝ }
+    ensures number { λ r. ⌜ verdictPaper (r .answer) ≡ paperOf (planChecks c) [] ⌝ }
 {
     let clock = c.clock;
     if !is_due(clock) {

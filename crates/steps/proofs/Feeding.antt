@@ -8,7 +8,7 @@ use native.Mathlib.Nat.{sub-zero, sub-add-eq}
 use native.Mathlib.Omega.{arith}
 use lib.ListN.{length}
 use borrow.Author.Tests.{ltb-false}
-use Rattle.rules.specs.Numbers.{lineRoom}
+use Rattle.rules.specs.Numbers.{refusalRoom, lineRoom}
 use Rattle.rules.specs.Trace.{readAt}
 use Rattle.rules.specs.Replay.{isStopped, readStep, nextPlace, stepped}
 use Rattle.rules.specs.Chunks.{Run, callOf, isCall, isRunning, runs, runFrom, isEnd, wantsBytes, halts, pauseOf, nothing, printedBefore, partFrom, part, fed}
@@ -103,7 +103,7 @@ module _ {last : Bool} {trace : List ℕ} {place : ℕ} {s₀ : Replay} {o₀ o 
     asks : lineRoom ≤ length (restOf o count)
     asks = rw (stands-rest (v .front), ← stands-kept (v .front)) (known .wide)
 
-    pub asks-little : 5 ≤ length (restOf o count)
+    pub asks-little : refusalRoom ≤ length (restOf o count)
     asks-little = omega (arith, asks)
 
     step-is : stepped (readAt trace at) s ≡ readStep read s

@@ -94,7 +94,7 @@ module _ (p w : ℕ) (s : Replay) where
     unfolding recordStep nodeStep nodeChecks
     node-accepted t = rw (← n, ← e, t)
 
-  -- "A 64th node record is refused 1": with the root it would be the 65th node
+  -- "a 64th node record 20": with the root it would be the 65th node
   pub node-too-many : nodesMost ≤ s .tree .count → recordStep (Node p w) s ≡ stopsAt (BadTree Count) s
   unfolding newestFault
   node-too-many h = node-refused refl {f = Count} (rw (lt-leb (s .tree .count + 1) nodesMost (omega arith))) refl

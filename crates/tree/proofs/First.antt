@@ -1,6 +1,6 @@
 -- The first fault of a tree, as it is found node by node.
 -- Assumes nothing.
-use mathlib.Core.Path.{_≡_, refl, sym, _∙_}
+use mathlib.Core.Path.{_≡_, sym, _∙_}
 use mathlib.Core.Bool.{true, false}
 use mathlib.Core.List.{List}
 use mathlib.Core.Logic.{⊎-elim}
@@ -11,14 +11,15 @@ use lib.ListN.{getD}
 use borrow.Author.Tests.{le-leb, lt-leb, lt-ltb, le-ltb}
 use lib.Dec.{leb}
 use Rattle.rules.specs.Numbers.{nodesLeast, nodesMost, levelMost}
-use Rattle.rules.specs.Tree.{last, level, countInRange, weightInRange, nodeFault, earlierFault, faultTo, treeFault, newestFault}
+use Rattle.rules.specs.Tree.{last, level, countInRange, weightInRange, nodeFault, faultTo, treeFault, newestFault}
 use Rattle.rules.specs.Refusals.{isFault}
 use Rattle.rules.specs.declared.tree.Tree.{Tree}
 use Rattle.rules.specs.declared.tree.Fault.{Fault}
 use Rattle.rules.specs.declared.tree.Fault.the-variants.{Sound, Count, Parent, Weight, Level}
-use Rattle.rules.specs.Laws.Bools.{true-not-false, and-not-right}
+use Rattle.rules.specs.Laws.Bools.{and-not-right}
 use Rattle.rules.specs.Laws.Trees.{nodes-sound}
 use Rattle.rules.specs.Laws.TreeVerdicts.{sound-when}
+use Rattle.rules.specs.Laws.Faults.{earlier-kept}
 use Rattle.tree.specs.View.{treeOf, Climbs}
 use Rattle.tree.proofs.View.{parent-at, weight-at, last-at}
 
@@ -50,13 +51,6 @@ module _ (ps ws : List ℕ) (n : ℕ) (pos : 0 < n) {q : ℕ} (e : q ≡ getD ps
           rw (parent-at count ps ws n pos, ← e, lt-leb n q small, weight-at count ps ws n, fair, ← levels count ws, le-ltb levelMost r l)
 
 -- ---- node after node
-earlier-kept : (f g : Fault) → isFault f ≡ true → earlierFault f g ≡ f
-earlier-kept Sound g e = absurd (true-not-false e refl)
-earlier-kept Count g e = refl
-earlier-kept (Parent n) g e = refl
-earlier-kept (Weight n) g e = refl
-earlier-kept (Level n) g e = refl
-
 -- past nodes with no fault, the next one's is the first
 fault-next : (t : Tree) (n m : ℕ) → n ≡ suc m → faultTo t m ≡ Sound → faultTo t n ≡ nodeFault t n
 unfolding faultTo

@@ -1,8 +1,9 @@
 // The weight tree: what is wrong with it, which nodes are its leaves and which are active, and the base share of each
 // active leaf. A tree comes in by value; the work is done on its arrays, which are lent, so that no call copies them.
 ghost use mathlib.Core.Path.{_≡_};
+ghost use mathlib.Core.List.{[]};
 ghost use Prim.Native.Nat.{_<_};
-ghost use Rattle.rules.specs.Refusals.{verdictNumber, due, treeChecks};
+ghost use Rattle.rules.specs.Refusals.{verdictPaper, paperOf, treeChecks};
 ghost use Rattle.rules.specs.Entries.{treeVerdict};
 use rules::refusals::Refusal;
 use rules::refusals::Verdict;
@@ -25,10 +26,10 @@ fn heavy(weight: u16) -> u64
     weight as u64
 }
 
-// Check a tree: refusal 1 names what is wrong, and 2 is for one that is thin.
+// Check a tree: 20 to 23 say what is wrong, and at which node, and 2 is for one that is thin.
 pub fn check(tree: Tree) -> Verdict
     ensures { λ r. ⌜ r ≡ treeVerdict tree ⌝ }
-    ensures number { λ r. ⌜ verdictNumber r ≡ due (treeChecks tree) ⌝ }
+    ensures number { λ r. ⌜ verdictPaper r ≡ paperOf (treeChecks tree) [] ⌝ }
 {
     let found = faults::fault(tree);
     if faults::broken(found) {

@@ -22,7 +22,7 @@ pub fn with_weight(mut tree: Tree, node: u8, weight: u16) -> Tree
     tree
 }
 
-// Refusal 19 for the root and for a node that is not there, then 1 for the weight, then 2 where the tree with it is thin.
+// Refusal 19 for the root and for a node that is not there, then 22 for the weight, then 2 where the tree with it is thin.
 pub fn verdict(tree: Tree, node: u8, weight: u16) -> Verdict
     requires { ⌜ SoundTree tree ⌝ }
     ensures { λ r. ⌜ r ≡ firstOf (weightChecks node weight tree) ⌝ }

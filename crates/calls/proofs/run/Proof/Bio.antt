@@ -5,7 +5,7 @@ use mathlib.Core.Path.{_≡_, ap, _∙_}
 use mathlib.Core.Logic.{⊎-elim}
 use Prim.Native.Nat.{ℕ, _<_}
 use native.Mathlib.Omega.{arith}
-use Rattle.rules.specs.Numbers.{nodesMost}
+use Rattle.rules.specs.Numbers.{nodesMost, refusalRoom}
 use Rattle.rules.specs.Words.{noNode}
 use Rattle.rules.specs.Budget.{queueAt, withSharing, withBooks, putLeaf, pushed, rebased}
 use Rattle.rules.specs.Entries.{submitted}
@@ -236,7 +236,7 @@ pub part-put-answer-start : At tie.Need-part-put-answer-start
 part-put-answer-start c = left-at (turn-at c)
 
 pub put-answer-requires : At tie.Need-put-answer-requires
-put-answer-requires c κs = room-at (turn-at (c .before)) 13 (omega arith)
+put-answer-requires c κs = room-at (turn-at (c .before)) refusalRoom (omega arith)
 
 pub add-count : At tie.Need-add-count
 add-count c =

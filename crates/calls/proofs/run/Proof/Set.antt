@@ -4,6 +4,7 @@
 use mathlib.Core.Path.{_≡_}
 use mathlib.Core.Logic.{⊎-elim}
 use native.Mathlib.Omega.{arith}
+use Rattle.rules.specs.Numbers.{refusalRoom}
 use Rattle.rules.specs.Entries.{setBy}
 use Rattle.rules.specs.Invariant.{Sound}
 use Rattle.rules.specs.Replay.{verdictLines}
@@ -69,7 +70,7 @@ pub part-put-verdict-start : At tie.Need-part-put-verdict-start
 part-put-verdict-start c = left-at (set-turn (c .before))
 
 pub put-verdict-requires : At tie.Need-put-verdict-requires
-put-verdict-requires c κs = room-at (set-turn (c .before .before)) 5 (omega arith)
+put-verdict-requires c κs = room-at (set-turn (c .before .before)) refusalRoom (omega arith)
 
 pub add-count-4 : At tie.Need-add-count-4
 add-count-4 c =
