@@ -4,12 +4,12 @@
 //! anything, and only then changes the state; a refused call so leaves the
 //! controller and any lent buffer as they were.
 
-use crate::engine::cost::{is_sequential, Bio, Model, MAX_COST};
+use crate::engine::cost::{is_sequential, Bio, Model, Rates, MAX_COST};
 use crate::engine::leaf::{Leaf, QUEUE_ROOM};
 use crate::engine::numbers::{floor, is_member, members, Absolute, Relative, WHOLE};
 use crate::engine::refusal::Refusal;
 use crate::engine::rules::{Mutant, Rules};
-use crate::engine::tree::{Shares, Tree, MAX_NODES, SHARE_FLOOR};
+use crate::engine::tree::{Node, Shares, Tree, MAX_NODES, SHARE_FLOOR};
 
 /// The most bios that can wait over all leaves.
 pub const MAX_WAITING: usize = (MAX_NODES - 1) * QUEUE_ROOM;
@@ -59,7 +59,21 @@ pub(super) struct Aside {
 }
 
 impl Controller {
-    /// A fresh state, or refusal 1 or 2 for the tree.
+    /// A fresh state of all that is given, not yet looked at; refusals 20 to
+    /// 23, 2 and 3.
+    pub fn start_of(
+        nodes: &[Node],
+        rates: &Rates,
+        time: u64,
+        rules: Rules,
+    ) -> Result<Controller, Refusal> {
+        let tree = Tree::of(nodes, rules)?;
+        tree.check(rules)?;
+        let model = Model::new(rates, rules)?;
+        Controller::start(tree, model, time, rules)
+    }
+
+    /// A fresh state, or refusal 20 or 2 for the tree.
     pub fn start(tree: Tree, model: Model, time: u64, rules: Rules) -> Result<Controller, Refusal> {
         tree.check(rules)?;
         let aside = Aside {

@@ -1,7 +1,7 @@
 //! The weight tree and its base shares.
 
 use crate::engine::numbers::{is_member, members, WHOLE};
-use crate::engine::refusal::Refusal;
+use crate::engine::refusal::{Fault, Refusal};
 use crate::engine::rules::{Mutant, Rules};
 
 /// The most nodes, counting the root.
@@ -40,6 +40,61 @@ fn in_range(weight: u16, of: &WeightMutants, rules: Rules) -> bool {
     (lightest..=heaviest).contains(&u64::from(weight))
 }
 
+/// A mutant, a fault, and the one that the mutant tells in its place.
+type Told = (Mutant, Fault, Fault);
+
+const NODE_TOLD: &[Told] = &[
+    (Mutant::CountAsParent, Fault::Count, Fault::Parent),
+    (Mutant::ParentAsCount, Fault::Parent, Fault::Count),
+    (Mutant::ParentAsWeight, Fault::Parent, Fault::Weight),
+    (Mutant::ParentAsLevel, Fault::Parent, Fault::Level),
+    (Mutant::WeightAsCount, Fault::Weight, Fault::Count),
+    (Mutant::WeightAsParent, Fault::Weight, Fault::Parent),
+    (Mutant::WeightAsLevel, Fault::Weight, Fault::Level),
+    (Mutant::LevelAsCount, Fault::Level, Fault::Count),
+    (Mutant::LevelAsParent, Fault::Level, Fault::Parent),
+    (Mutant::LevelAsWeight, Fault::Level, Fault::Weight),
+    (Mutant::NodeGivesOne, Fault::Count, Fault::Unsplit),
+    (Mutant::NodeGivesOne, Fault::Parent, Fault::Unsplit),
+    (Mutant::NodeGivesOne, Fault::Weight, Fault::Unsplit),
+    (Mutant::NodeGivesOne, Fault::Level, Fault::Unsplit),
+];
+
+const START_TOLD: &[Told] = &[(Mutant::StartGivesOne, Fault::Count, Fault::Unsplit)];
+
+const NEW_WEIGHT_TOLD: &[Told] = &[
+    (Mutant::WeightGivesOne, Fault::Weight, Fault::Unsplit),
+    (Mutant::NewWeightAsParent, Fault::Weight, Fault::Parent),
+    (Mutant::NewWeightAsLevel, Fault::Weight, Fault::Level),
+];
+
+/// A fault is told as it is, but under a mutant.
+fn told(fault: Fault, by_mutants: &[Told], rules: Rules) -> Fault {
+    by_mutants
+        .iter()
+        .find(|(mutant, found, _)| rules.changed(*mutant) && *found == fault)
+        .map_or(fault, |(_, _, told)| *told)
+}
+
+/// The refusal of a node record. A bad node is named by the number that it
+/// would get, and 20 names the root.
+fn refused_node(fault: Fault, node: u8, parent: u8, rules: Rules) -> Refusal {
+    let named = match fault {
+        Fault::Count if rules.changed(Mutant::CountNamesNext) => node,
+        Fault::Count if rules.changed(Mutant::CountNamesLast) => node - 1,
+        Fault::Count => 0,
+        _ if rules.changed(Mutant::NodeBeforeNamed) => node - 1,
+        _ if rules.changed(Mutant::NodeBehindNamed) => node + 1,
+        _ if rules.changed(Mutant::ParentNamed) => parent,
+        _ if rules.changed(Mutant::RootNamed) => 0,
+        _ => node,
+    };
+    Refusal::Tree(told(fault, NODE_TOLD, rules), named)
+}
+
+/// The parent and the weight of a node.
+pub type Node = (u8, u16);
+
 #[derive(Clone, Debug, PartialEq, Eq)]
 pub struct Tree {
     count: usize,
@@ -75,24 +130,26 @@ impl Tree {
         self.levels[node]
     }
 
-    /// Adds the next node below `parent`, or refuses it with 1.
+    /// The tree of a list with the root in front, where nothing is looked at;
+    /// refusals 20 to 23.
+    pub fn of(nodes: &[Node], rules: Rules) -> Result<Tree, Refusal> {
+        if !(2..=MAX_NODES).contains(&nodes.len()) {
+            return Err(Refusal::COUNT);
+        }
+        let mut tree = Tree::new();
+        for &(parent, weight) in &nodes[1..] {
+            tree.add(parent, weight, rules)?;
+        }
+        Ok(tree)
+    }
+
+    /// Adds the next node below `parent`; refusals 20 to 23.
     pub fn add(&mut self, parent: u8, weight: u16, rules: Rules) -> Result<(), Refusal> {
         let node = self.count;
-        let parent = usize::from(parent);
-        let good_weight = in_range(weight, &NODE_RECORD, rules);
-        let room = MAX_NODES - usize::from(rules.changed(Mutant::NodesOneLess));
-        let deepest = rules.limit(
-            Mutant::LevelOneLess,
-            Mutant::LevelOneMore,
-            u64::from(MAX_LEVEL),
-        );
-        if node >= room
-            || parent >= node
-            || !good_weight
-            || u64::from(self.levels[parent]) >= deepest
-        {
-            return Err(Refusal::Tree);
+        if let Some(fault) = self.fault_of_next(parent, weight, rules) {
+            return Err(refused_node(fault, node as u8, parent, rules));
         }
+        let parent = usize::from(parent);
         self.parents[node] = parent;
         self.weights[node] = u64::from(weight);
         self.levels[node] = self.levels[parent] + 1;
@@ -102,13 +159,64 @@ impl Tree {
         Ok(())
     }
 
-    /// Refusal 1 for the weight of a weight record.
-    pub fn check_weight(weight: u16, rules: Rules) -> Result<(), Refusal> {
-        if in_range(weight, &WEIGHT_RECORD, rules) {
-            Ok(())
-        } else {
-            Err(Refusal::Tree)
+    /// The first thing that is wrong with the next node, if any is.
+    fn fault_of_next(&self, parent: u8, weight: u16, rules: Rules) -> Option<Fault> {
+        let node = self.count;
+        let room = MAX_NODES - usize::from(rules.changed(Mutant::NodesOneLess));
+        let bad_parent = usize::from(parent) >= node;
+        let mut faults = [
+            (node >= room, Fault::Count),
+            (bad_parent, Fault::Parent),
+            (!in_range(weight, &NODE_RECORD, rules), Fault::Weight),
+            // A parent that is not there has no level.
+            (!bad_parent && self.is_deepest(parent, rules), Fault::Level),
+        ];
+        if rules.changed(Mutant::WeightBeforeParent) {
+            faults.swap(1, 2);
         }
+        if rules.changed(Mutant::LevelBeforeWeight) {
+            faults.swap(2, 3);
+        }
+        if rules.changed(Mutant::CountLast) {
+            faults.rotate_left(1);
+        }
+        let first = faults.iter().find(|(holds, _)| *holds);
+        first.map(|(_, fault)| *fault)
+    }
+
+    /// Whether no node may lie below this parent.
+    fn is_deepest(&self, parent: u8, rules: Rules) -> bool {
+        let deepest = rules.limit(
+            Mutant::LevelOneLess,
+            Mutant::LevelOneMore,
+            u64::from(MAX_LEVEL),
+        );
+        let above = if rules.changed(Mutant::LevelOfLast) {
+            self.count - 1
+        } else {
+            usize::from(parent)
+        };
+        u64::from(self.levels[above]) >= deepest
+    }
+
+    /// Refusal 22 for the weight of a weight record, which names its node.
+    pub fn check_weight(&self, node: usize, weight: u16, rules: Rules) -> Result<(), Refusal> {
+        if in_range(weight, &WEIGHT_RECORD, rules) {
+            return Ok(());
+        }
+        let named = if rules.changed(Mutant::NewWeightNamesRoot) {
+            0
+        } else if rules.changed(Mutant::NewWeightNamesBefore) {
+            node.saturating_sub(1)
+        } else if rules.changed(Mutant::NewWeightNamesBehind) {
+            node + 1
+        } else if rules.changed(Mutant::NewWeightNamesLast) {
+            self.count - 1
+        } else {
+            node
+        };
+        let fault = told(Fault::Weight, NEW_WEIGHT_TOLD, rules);
+        Err(Refusal::Tree(fault, named as u8))
     }
 
     /// The same tree with another weight of one node. Only a mutant asks for
@@ -142,10 +250,12 @@ impl Tree {
         below & self.leaves
     }
 
-    /// Refusals 1 for too few nodes and 2 for a thin tree.
+    /// Refusals 20 for too few nodes and 2 for a thin tree.
     pub fn check(&self, rules: Rules) -> Result<(), Refusal> {
         if self.count < 2 {
-            return Err(Refusal::Tree);
+            let fault = told(Fault::Count, START_TOLD, rules);
+            let named = u8::from(rules.changed(Mutant::StartNamesFirst));
+            return Err(Refusal::Tree(fault, named));
         }
         self.check_thin(rules)
     }

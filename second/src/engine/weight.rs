@@ -8,7 +8,7 @@ use crate::engine::rules::Mutant;
 use crate::engine::tree::{Shares, Tree, MAX_NODES, SHARE_FLOOR};
 
 impl Controller {
-    /// Sets the weight of one node; refusals 19, 1 and 2. Any donation ends,
+    /// Sets the weight of one node; refusals 19, 22 and 2. Any donation ends,
     /// and budgets follow the shares, which are base shares of the new tree.
     pub fn set_weight(&mut self, node: u8, weight: u16) -> Result<(), Refusal> {
         let node = usize::from(node);
@@ -34,10 +34,10 @@ impl Controller {
         Ok(())
     }
 
-    /// The tree with the new weight; refusals 19, 1 and 2, in this order.
+    /// The tree with the new weight; refusals 19, 22 and 2, in this order.
     fn reweighted(&self, node: usize, weight: u16) -> Result<Tree, Refusal> {
         if self.rules.changed(Mutant::WeightBeforeNode) {
-            Tree::check_weight(weight, self.rules)?;
+            self.tree.check_weight(node, weight, self.rules)?;
         }
         self.check_named(node)?;
         let tree = if self.rules.changed(Mutant::WeightsOneByOne) {
@@ -48,7 +48,7 @@ impl Controller {
         if self.rules.changed(Mutant::ThinBeforeWeight) {
             self.check_new_tree(&tree, node)?;
         }
-        Tree::check_weight(weight, self.rules)?;
+        self.tree.check_weight(node, weight, self.rules)?;
         self.check_new_tree(&tree, node)?;
         Ok(tree)
     }

@@ -4,7 +4,7 @@ use std::io::{self, Read, Write};
 use std::sync::Mutex;
 
 use crate::engine::controller::Answer;
-use crate::engine::refusal::Refusal;
+use crate::engine::refusal::{Refusal, LAST_NUMBER};
 use crate::engine::rules::Rules;
 use crate::observation::events::Event;
 use crate::observation::observe::observe;
@@ -28,6 +28,7 @@ pub struct Census {
     records: u64,
     events: Vec<u64>,
     letters: [u64; LETTERS.len()],
+    /// By their numbers.
     refusals: Vec<u64>,
 }
 
@@ -38,7 +39,7 @@ impl Census {
             records: 0,
             events: vec![0; Event::ALL.len()],
             letters: [0; LETTERS.len()],
-            refusals: vec![0; Refusal::ALL.len()],
+            refusals: vec![0; usize::from(LAST_NUMBER) + 1],
         }
     }
 
@@ -113,10 +114,8 @@ impl Census {
             Outcome::Refused(_) => 5,
         };
         self.letters[letter] += lines;
-        if let Outcome::Refused(given) = outcome {
-            for (place, refusal) in Refusal::ALL.iter().enumerate() {
-                self.refusals[place] += u64::from(*refusal == given);
-            }
+        if let Outcome::Refused(refusal) = outcome {
+            self.refusals[usize::from(refusal.number())] += 1;
         }
     }
 
@@ -150,8 +149,9 @@ impl Census {
         for (name, count) in LETTERS.iter().zip(&self.letters) {
             writeln!(out, "{} {}", name, count)?;
         }
-        for (refusal, count) in Refusal::ALL.iter().zip(&self.refusals) {
-            writeln!(out, "refusal-{} {}", refusal.number(), count)?;
+        for number in Refusal::numbers() {
+            let count = self.refusals[usize::from(number)];
+            writeln!(out, "refusal-{} {}", number, count)?;
         }
         for (event, count) in Event::ALL.iter().zip(&self.events) {
             writeln!(out, "{} {}", event.name(), count)?;
@@ -162,15 +162,15 @@ impl Census {
     /// All that is asked for by name, and how often it was reached.
     pub fn asked(&self) -> Vec<(String, u64)> {
         let letters = LETTERS.iter().map(|name| name.to_string());
-        let refusals = Refusal::ALL.iter().zip(&self.refusals);
+        let exempt = EXEMPT.map(Refusal::number);
+        let refusals = Refusal::numbers().filter(|number| !exempt.contains(number));
         let events = Event::ALL.iter().map(|event| event.name().to_string());
         letters
             .zip(self.letters.iter().copied())
-            .chain(
-                refusals
-                    .filter(|(refusal, _)| !EXEMPT.contains(refusal))
-                    .map(|(refusal, &count)| (format!("refusal-{}", refusal.number()), count)),
-            )
+            .chain(refusals.map(|number| {
+                let count = self.refusals[usize::from(number)];
+                (format!("refusal-{}", number), count)
+            }))
             .chain(events.zip(self.events.iter().copied()))
             .collect()
     }

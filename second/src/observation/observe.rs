@@ -129,7 +129,7 @@ fn observe_rates(rates: &Rates, refused: bool, sink: &mut Sink) {
 fn observe_start(tree: &Tree, outcome: Outcome, sink: &mut Sink) {
     match outcome {
         Outcome::Refused(Refusal::WrongPhase) => sink.when(true, Event::StartWithoutModel),
-        Outcome::Refused(Refusal::Tree) => sink.when(true, Event::NoNode),
+        Outcome::Refused(Refusal::Tree(..)) => sink.when(true, Event::NoNode),
         Outcome::Refused(_) => {
             sink.when(true, Event::ThinTree);
             let smallest = tree.smallest_share(Rules::TRUE);
@@ -208,7 +208,7 @@ fn observe_refused_weight(
             let bad = !(1..=MAX_WEIGHT).contains(&weight);
             sink.when(bad, Event::WeightNodeBeforeRange);
         }
-        Refusal::Tree => {
+        Refusal::Tree(..) => {
             sink.when(weight == 0, Event::NewWeight0);
             sink.when(weight == MAX_WEIGHT + 1, Event::NewWeight10001);
             sink.when(weight == u16::MAX, Event::NewWeight65535);

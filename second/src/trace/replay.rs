@@ -5,7 +5,7 @@ use std::io::{self, Read, Write};
 use crate::engine::controller::{Answer, Controller, MAX_WAITING};
 use crate::engine::cost::Model;
 use crate::engine::numbers::members;
-use crate::engine::refusal::Refusal;
+use crate::engine::refusal::{Fault, Refusal};
 use crate::engine::rules::{Mutant, Rules};
 use crate::engine::tree::Tree;
 use crate::trace::record::{Record, START};
@@ -38,6 +38,16 @@ pub struct Replay {
     rules: Rules,
     released: [u32; MAX_WAITING],
     stopped: bool,
+    aside: Aside,
+}
+
+/// What no replay keeps, but a mutant does.
+#[derive(Clone, Default)]
+struct Aside {
+    /// The refusal of a bad node that start is still to give.
+    late: Option<Refusal>,
+    /// The node of the last weight.
+    node: u8,
 }
 
 impl Replay {
@@ -50,6 +60,7 @@ impl Replay {
             rules,
             released: [0; MAX_WAITING],
             stopped: false,
+            aside: Aside::default(),
         }
     }
 
@@ -94,7 +105,7 @@ impl Replay {
     fn stops_by_mutant(&self, refusal: Refusal) -> bool {
         let mutant = match refusal {
             Refusal::NoWeight => Mutant::NodeStops,
-            Refusal::Tree | Refusal::Thin => Mutant::TreeStops,
+            Refusal::Tree(..) | Refusal::Thin => Mutant::TreeStops,
             _ => Mutant::RefusalStops,
         };
         self.rules.changed(mutant) || self.rules.changed(Mutant::RefusalStops)
@@ -126,7 +137,8 @@ impl Replay {
         };
         match (record, *model) {
             (Record::Node { parent, weight }, _) => {
-                tree.add(*parent, *weight, self.rules)?;
+                let added = tree.add(*parent, *weight, self.rules);
+                self.aside.judge(added, tree, model.is_some(), self.rules)?;
                 if self.rules.changed(Mutant::ThinAtNode) {
                     tree.check_thin(self.rules)?;
                 }
@@ -140,6 +152,7 @@ impl Replay {
                 return Err(Refusal::WrongPhase);
             }
             (Record::Start { time }, Some(given)) => {
+                self.aside.late.map_or(Ok(()), Err)?;
                 let controller = Controller::start(tree.clone(), given, *time, self.rules)?;
                 self.phase = Phase::Running(controller);
             }
@@ -183,6 +196,7 @@ impl Replay {
                 Ok(Outcome::Quiet)
             }
             Record::Weight { node, weight } => {
+                self.aside.node = *node;
                 controller.set_weight(*node, *weight)?;
                 Ok(if self.rules.changed(Mutant::WeightPrints) {
                     Outcome::Planned
@@ -194,6 +208,10 @@ impl Replay {
                 let tree = controller.tree.clone();
                 *controller = Controller::start(tree, controller.model, *time, self.rules)?;
                 Ok(Outcome::Quiet)
+            }
+            Record::Node { parent, weight } if self.rules.changed(Mutant::FaultBeforePhase) => {
+                controller.tree.clone().add(*parent, *weight, self.rules)?;
+                Err(Refusal::WrongPhase)
             }
             Record::Node { .. } | Record::Model(_) | Record::Start { .. } => {
                 Err(Refusal::WrongPhase)
@@ -227,7 +245,41 @@ impl Replay {
                 Ok(())
             }
             Outcome::Planned => self.print_shares(out),
-            Outcome::Refused(refusal) => print_line(out, b'R', &[u64::from(refusal.number())]),
+            Outcome::Refused(refusal) => self.print_refusal(refusal, out),
+        }
+    }
+
+    /// The number of a refusal, and the node that is named with it.
+    fn print_refusal(&self, refusal: Refusal, out: &mut impl Write) -> io::Result<()> {
+        let number = u64::from(refusal.number());
+        match self.node_named(refusal) {
+            None => print_line(out, b'R', &[number]),
+            Some(node) => {
+                let mut numbers = [number, u64::from(node)];
+                if self.rules.changed(Mutant::NodeFirst) {
+                    numbers.reverse();
+                }
+                print_line(out, b'R', &numbers)
+            }
+        }
+    }
+
+    /// The node that a line names. A mutant leaves it out, or names one where
+    /// none belongs.
+    fn node_named(&self, refusal: Refusal) -> Option<u8> {
+        let running = self.controller().is_some();
+        let named_by = match refusal {
+            Refusal::Thin => Mutant::NodeWithThin,
+            Refusal::Rate => Mutant::NodeWithRate,
+            Refusal::NoWeight => Mutant::NodeWithNoWeight,
+            _ => Mutant::NodeWithOthers,
+        };
+        match refusal.node() {
+            Some(_) if self.rules.changed(Mutant::NodeLeftOut) => None,
+            Some(0) if self.rules.changed(Mutant::RootLeftOut) => None,
+            Some(_) if running && self.rules.changed(Mutant::NewWeightNodeLeftOut) => None,
+            None if self.rules.changed(named_by) => Some(self.aside.node),
+            named => named,
         }
     }
 
@@ -249,6 +301,39 @@ impl Replay {
             }
         }
         Ok(())
+    }
+}
+
+impl Aside {
+    /// A bad node is refused at its record and by its own number, but under a
+    /// mutant.
+    fn judge(
+        &mut self,
+        added: Result<(), Refusal>,
+        tree: &mut Tree,
+        after_model: bool,
+        rules: Rules,
+    ) -> Result<(), Refusal> {
+        let refusal = match added {
+            Ok(()) => return Ok(()),
+            Err(refusal) => refusal,
+        };
+        let first = rules.changed(Mutant::NodeFaultAtStart);
+        if first || rules.changed(Mutant::LastBadNode) {
+            if self.late.is_none() || !first {
+                self.late = Some(refusal);
+            }
+            // With a node in its place the next ones keep their numbers.
+            return tree.add(0, 1, rules).or(Ok(()));
+        }
+        match refusal {
+            Refusal::Tree(fault, node)
+                if after_model && fault != Fault::Count && rules.changed(Mutant::ModelCounted) =>
+            {
+                Err(Refusal::Tree(fault, node + 1))
+            }
+            _ => Err(refusal),
+        }
     }
 }
 

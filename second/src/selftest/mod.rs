@@ -1,6 +1,8 @@
 //! The self test: document 01's bench numbers and whole case, numbers from
 //! outside it, round trips, and the refusals no trace can reach.
 
+mod trees;
+
 use std::fmt::Debug;
 use std::io::{self, Write};
 
@@ -8,7 +10,7 @@ use crate::engine::controller::{Answer, Controller, MAX_ELAPSED, MAX_PERIOD, MAX
 use crate::engine::cost::{Bio, Model, Rates, Side, FORCED, MAX_BYTES, WRITE};
 use crate::engine::leaf::relative_cost;
 use crate::engine::numbers::{ceil, floor, members, Absolute, Relative, WHOLE};
-use crate::engine::refusal::Refusal;
+use crate::engine::refusal::{Fault, Refusal};
 use crate::engine::rules::{Mutant, Rules};
 use crate::engine::tree::Tree;
 use crate::generator::generate::generate;
@@ -19,7 +21,7 @@ use crate::observation::ledger::audit;
 use crate::text::assemble::assemble_whole;
 use crate::text::list::list;
 use crate::trace::record::{decode, encode, Record, LAST, LONGEST};
-use crate::trace::replay::replay;
+use crate::trace::replay::{replay, Outcome, Replay};
 use crate::trace::stream::Reader;
 
 /// Counts what held and keeps a line for what did not.
@@ -40,7 +42,7 @@ impl Checks {
 }
 
 /// Fewer checks are no test: a loop over nothing is no success.
-const LEAST: u64 = 905;
+const LEAST: u64 = 3_987;
 
 /// A group of checks; a refusal ends it where none belongs.
 type Group = fn(&mut Checks) -> Result<(), Refusal>;
@@ -57,6 +59,14 @@ const GROUPS: &[(&str, Group)] = &[
     ("virtual time limit", virtual_time_limit),
     ("order of refusals at a tick", tick_refusal_order),
     ("release buffer", release_buffer),
+    ("counts of nodes", trees::counts),
+    ("one bad node", trees::single_faults),
+    ("two bad nodes", trees::faults_of_two),
+    ("sound trees", trees::sound_trees),
+    ("order of refusals of a tree", trees::tree_refusal_order),
+    ("nodes one by one", trees::added_nodes),
+    ("bad new weights", trees::bad_new_weights),
+    ("generated trees", trees::generated_trees),
     ("refused weights", refused_weights),
     ("accepted weights", accepted_weights),
     ("savings at a weight", savings_at_weight),
@@ -426,7 +436,7 @@ fn weight_changes(
     (answer, *controller != before)
 }
 
-/// 19 before 1 before 2, each without a change, with a donation standing.
+/// 19 before 22 before 2, each without a change, with a donation standing.
 fn refused_weights(checks: &mut Checks) -> Result<(), Refusal> {
     let mut controller = standing_donation()?;
     checks.equal("weight: donors before", controller.donors, 1 << 2);
@@ -441,7 +451,11 @@ fn refused_weights(checks: &mut Checks) -> Result<(), Refusal> {
         for weight in [0, 10_001, u16::MAX] {
             let refused = weight_changes(&mut controller, node, weight);
             let name = format!("weight {} {}", node, weight);
-            checks.equal(&name, refused, (Err(Refusal::Tree), false));
+            checks.equal(
+                &name,
+                refused,
+                (Err(Refusal::Tree(Fault::Weight, node)), false),
+            );
         }
     }
     let absent = (3..=255).all(|node| {
@@ -456,7 +470,11 @@ fn refused_weights(checks: &mut Checks) -> Result<(), Refusal> {
     checks.equal("weight: B8", weight_changes(&mut edge, 4, 1_024), thin);
     checks.equal("weight: thin", weight_changes(&mut edge, 2, 1_024), thin);
     let bad = weight_changes(&mut edge, 4, 10_001);
-    checks.equal("weight: 1 before 2", bad, (Err(Refusal::Tree), false));
+    checks.equal(
+        "weight: 22 before 2",
+        bad,
+        (Err(Refusal::Tree(Fault::Weight, 4)), false),
+    );
     let equal = weight_changes(&mut edge, 4, 1_023);
     checks.equal("weight: B7", equal, (Ok(()), false));
     Ok(())
@@ -675,8 +693,41 @@ fn generated_trace(checks: &mut Checks, seed: u64, style: Style) -> io::Result<(
     list(trace.as_slice(), &mut text)?;
     let text = String::from_utf8_lossy(&text);
     checks.equal(&name, trace_of(&text) == trace, true);
+    checks.equal(&name, bad_nodes_told(&text), bad_nodes_refused(&trace));
     checks.equal(&name, audit(&trace, Rules::TRUE), None);
     Ok(())
+}
+
+/// The lines of a listed trace with a comment on a node, and what it names.
+fn bad_nodes_told(text: &str) -> Vec<(usize, String)> {
+    let told = |line: &str| {
+        let (record, comment) = line.split_once(" # refusal ")?;
+        let named = comment.split(':').next()?;
+        let is_node = record.starts_with("node ");
+        Some(named.to_string()).filter(|_| is_node)
+    };
+    let lines = text.lines().enumerate();
+    lines
+        .filter_map(|(place, line)| Some((place, told(line)?)))
+        .collect()
+}
+
+/// The node records that a replay refuses by their own faults, and how.
+fn bad_nodes_refused(trace: &[u8]) -> Vec<(usize, String)> {
+    let mut reader = Reader::new(trace);
+    let mut replay = Replay::new(Rules::TRUE);
+    let mut refused = Vec::new();
+    let mut place = 0;
+    while let (false, Ok(Some(record))) = (replay.stopped(), reader.next()) {
+        let outcome = replay.take(Ok(record));
+        if let (Record::Node { .. }, Outcome::Refused(Refusal::Tree(fault, node))) =
+            (record, outcome)
+        {
+            refused.push((place, format!("{} {}", fault as u8, node)));
+        }
+        place += 1;
+    }
+    refused
 }
 
 /// The audit of demand 3 can fail: it notices these changed rules.
