@@ -6,8 +6,8 @@ use crate::generator::generate::generate;
 use crate::generator::style::Style;
 
 /// Styles, how many traces of each, and their records. Those that tell most
-/// mistakes apart come first. Setup faults come one to a trace, so short
-/// traces are the most numerous.
+/// mistakes apart come first. Setup faults come one to a trace, so traces of
+/// `trees` and short ones are the most numerous.
 const TRACES: &[(Style, u64, u64)] = &[
     (Style::Weights, 25, 10_000),
     (Style::Long, 25, 10_000),
@@ -19,6 +19,7 @@ const TRACES: &[(Style, u64, u64)] = &[
     (Style::Valid, 200, 500),
     (Style::Damaged, 500, 120),
     (Style::Noise, 120, 300),
+    (Style::Trees, 700, 40),
     (Style::Short, 900, 40),
 ];
 

@@ -4,14 +4,13 @@
 use std::io::{self, Write};
 
 use crate::generator::damage::{damage, noise};
+use crate::generator::faults::{bad_setup, bad_tree};
 use crate::generator::moves::debt::climb_to_debt_limit;
 use crate::generator::moves::load::{DEEP_MOVES, FEW_MOVES, FULL_MOVES, IDLE_MOVES};
 use crate::generator::moves::usual::{EDGE_MOVES, USUAL_MOVES};
 use crate::generator::moves::weight::WEIGHT_MOVES;
 use crate::generator::random::Random;
-use crate::generator::setup::{
-    bad_setup, dearest_setup, deep_setup, few_setup, good_setup, wide_setup,
-};
+use crate::generator::setup::{dearest_setup, deep_setup, few_setup, good_setup, wide_setup};
 use crate::generator::state::{Generator, Move};
 use crate::generator::style::Style;
 use crate::trace::record::Record;
@@ -21,6 +20,7 @@ fn choose_setup(random: &mut Random, style: Style, climb: bool) -> Vec<Record> {
         Style::Deep => deep_setup(random),
         Style::Few => few_setup(),
         Style::Idle | Style::Full => wide_setup(random),
+        Style::Trees => bad_tree(random),
         Style::Edges if climb => dearest_setup(random),
         Style::Edges if random.once_in(4) => bad_setup(random),
         Style::Short if random.once_in(2) => bad_setup(random),
@@ -35,7 +35,7 @@ fn moves_of(style: Style, random: &mut Random) -> &'static [(u64, Move)] {
         Style::Few => return FEW_MOVES,
         Style::Idle => return IDLE_MOVES,
         Style::Full => return FULL_MOVES,
-        Style::Short => 5,
+        Style::Short | Style::Trees => 5,
         Style::Long | Style::Valid | Style::Weights => 16,
         Style::Damaged | Style::Noise => 10,
         Style::Edges => 2,

@@ -2,6 +2,7 @@
 
 mod aim;
 pub mod damage;
+mod faults;
 pub mod generate;
 pub mod growth;
 mod moves;

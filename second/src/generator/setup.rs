@@ -1,9 +1,9 @@
-//! The setup part of generated traces: trees, models and their faults.
+//! The setup part of generated traces: trees and models.
 
 use crate::engine::cost::{Rates, MAX_BPS, MAX_COST, MAX_IOPS, MIN_BPS};
 use crate::engine::numbers::ceil;
 use crate::engine::rules::Rules;
-use crate::engine::tree::{Tree, MAX_LEVEL, MAX_NODES, MAX_WEIGHT};
+use crate::engine::tree::{Node, Tree, MAX_LEVEL, MAX_NODES, MAX_WEIGHT};
 use crate::generator::random::Random;
 use crate::trace::record::Record;
 
@@ -66,8 +66,8 @@ pub const LINUX: [(&str, Rates); 4] = [
     ),
 ];
 
-/// Parents and weights of the nodes from 1 on.
-type Nodes = Vec<(u8, u16)>;
+/// The nodes from 1 on.
+pub type Nodes = Vec<Node>;
 
 /// The setup records of a trace that starts.
 pub fn good_setup(random: &mut Random) -> Vec<Record> {
@@ -121,12 +121,12 @@ pub fn even_setup(leaves: u64, rates: Rates) -> Vec<Record> {
     setup_on(rates, &nodes)
 }
 
-fn setup_on_bench(nodes: &[(u8, u16)]) -> Vec<Record> {
+fn setup_on_bench(nodes: &[Node]) -> Vec<Record> {
     setup_on(BENCH, nodes)
 }
 
 /// The model first, then the nodes, and a start at 0.
-fn setup_on(rates: Rates, nodes: &[(u8, u16)]) -> Vec<Record> {
+fn setup_on(rates: Rates, nodes: &[Node]) -> Vec<Record> {
     let mut records = vec![Record::Model(rates)];
     records.extend(
         nodes
@@ -138,7 +138,7 @@ fn setup_on(rates: Rates, nodes: &[(u8, u16)]) -> Vec<Record> {
 }
 
 /// Nodes, model and start, the model at any place before the start.
-fn assemble(nodes: Nodes, rates: Rates, random: &mut Random) -> Vec<Record> {
+pub fn assemble(nodes: Nodes, rates: Rates, random: &mut Random) -> Vec<Record> {
     let mut records: Vec<Record> = nodes
         .iter()
         .map(|&(parent, weight)| Record::Node { parent, weight })
@@ -160,7 +160,7 @@ fn start_time(random: &mut Random) -> u64 {
     }
 }
 
-fn good_tree(random: &mut Random) -> Nodes {
+pub fn good_tree(random: &mut Random) -> Nodes {
     let nodes = match random.below(9) {
         0 => vec![(0, 100), (0, 300)],
         1 => vec![(0, 100); 3],
@@ -182,7 +182,7 @@ fn good_tree(random: &mut Random) -> Nodes {
     nodes.iter().map(|&(parent, _)| (parent, 100)).collect()
 }
 
-fn is_good(nodes: &[(u8, u16)]) -> bool {
+fn is_good(nodes: &[Node]) -> bool {
     let mut tree = Tree::new();
     nodes
         .iter()
@@ -217,8 +217,18 @@ fn comb_tree(random: &mut Random) -> Nodes {
 }
 
 fn scattered_tree(random: &mut Random, count: u64) -> Nodes {
-    let mut tree = Tree::new();
     let mut nodes = Vec::new();
+    scatter_to(&mut nodes, random, count);
+    nodes
+}
+
+/// Adds nodes at any place below the root, up to so many.
+fn scatter_to(nodes: &mut Nodes, random: &mut Random, count: u64) {
+    let mut tree = Tree::new();
+    for &(parent, weight) in nodes.iter() {
+        // Those given are sound.
+        let _ = tree.add(parent, weight, Rules::TRUE);
+    }
     while (nodes.len() as u64) < count {
         let parent = random.below(nodes.len() as u64 + 1) as u8;
         let weight = random.between(50, 400) as u16;
@@ -226,16 +236,24 @@ fn scattered_tree(random: &mut Random, count: u64) -> Nodes {
             nodes.push((parent, weight));
         }
     }
+}
+
+/// A chain down to the deepest level, and the other nodes anywhere.
+pub fn tall_tree(random: &mut Random, count: u64) -> Nodes {
+    let mut nodes: Nodes = (0..MAX_LEVEL)
+        .map(|parent| (parent, random.between(50, 400) as u16))
+        .collect();
+    scatter_to(&mut nodes, random, count);
     nodes
 }
 
 /// Weights 1 and 1,023 below the root, 1 and `inner` below the first: at
 /// 1,023 just not thin, at 1,024 just thin.
-fn edge_tree(inner: u16) -> Nodes {
+pub fn edge_tree(inner: u16) -> Nodes {
     vec![(0, 1), (0, 1_023), (1, 1), (1, inner)]
 }
 
-fn any_rates(random: &mut Random) -> Rates {
+pub fn any_rates(random: &mut Random) -> Rates {
     match random.below(10) {
         0 => PAPER,
         1 => same_rates(MAX_BPS, MAX_IOPS),
@@ -292,82 +310,4 @@ fn dearest_rates(random: &mut Random) -> Rates {
         wseqiops: 1_000,
         ..same_rates(bps, iops)
     }
-}
-
-/// Setup records with one fault.
-pub fn bad_setup(random: &mut Random) -> Vec<Record> {
-    match random.below(3) {
-        0 => bad_nodes(random),
-        1 => bad_rates(random),
-        _ => bad_order(random),
-    }
-}
-
-fn bad_nodes(random: &mut Random) -> Vec<Record> {
-    let mut nodes = good_tree(random);
-    let place = random.below(nodes.len() as u64) as usize;
-    let own_number = place as u8 + 1;
-    match random.below(8) {
-        0 => nodes[place].1 = 0,
-        1 => nodes[place].1 = MAX_WEIGHT + 1,
-        2 => nodes[place].0 = own_number,
-        3 => nodes[place].0 = random.between(u64::from(own_number) + 1, 255) as u8,
-        4 => nodes = scattered_tree(random, MAX_NODES as u64 - 1),
-        5 => nodes = (0..=MAX_LEVEL).map(|parent| (parent, 100)).collect(),
-        6 => nodes = edge_tree(random.spread(1_024, u64::from(MAX_WEIGHT)) as u16),
-        _ => nodes = Vec::new(),
-    }
-    if nodes.len() == MAX_NODES - 1 {
-        nodes.push((0, 100));
-    }
-    assemble(nodes, BENCH, random)
-}
-
-fn bad_rates(random: &mut Random) -> Vec<Record> {
-    let mut rates = any_rates(random);
-    let bps = random.pick(&[
-        0,
-        MIN_BPS - 1,
-        MIN_BPS - 1,
-        MAX_BPS + 1,
-        MAX_BPS + 1,
-        u64::MAX,
-    ]);
-    let iops = random.pick(&[0, MAX_IOPS + 1, u64::MAX]);
-    match random.below(6) {
-        0 => rates.rbps = bps,
-        1 => rates.rseqiops = iops,
-        2 => rates.rrandiops = iops,
-        3 => rates.wbps = bps,
-        4 => rates.wseqiops = iops,
-        _ => rates.wrandiops = iops,
-    }
-    let nodes = good_tree(random);
-    assemble(nodes, rates, random)
-}
-
-/// A good setup with a record lost, doubled or out of its phase.
-fn bad_order(random: &mut Random) -> Vec<Record> {
-    let mut records = good_setup(random);
-    let place = random.below(records.len() as u64) as usize;
-    match random.below(8) {
-        0 => records.retain(|record| !matches!(record, Record::Model(_))),
-        1 => {
-            let last = records.len() - 1;
-            records.insert(last, Record::Model(BENCH));
-            records.insert(last, Record::Model(BENCH));
-        }
-        2 => records.insert(place, Record::Plan),
-        3 => records.insert(place, Record::Vrate { vrate: 100 }),
-        4 => records.insert(place, Record::Tick { time: 0 }),
-        5 => {
-            let node = random.pick(&[0, 1, 1, 2, 255]);
-            let weight = random.pick(&[0, 100, MAX_WEIGHT]);
-            records.insert(place, Record::Weight { node, weight });
-        }
-        // No fault of a record: the trace ends before it starts.
-        6 => records.truncate(place),
-        _ => records.clear(),
-    }
-    records
 }

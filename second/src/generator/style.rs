@@ -13,6 +13,7 @@ named_list! {
         Full = "full",
         Noise = "noise",
         Weights = "weights",
+        Trees = "trees",
     }
 }
 
@@ -28,7 +29,7 @@ impl Style {
     /// many bytes there are in all for `noise`.
     pub fn usual_records(self) -> u64 {
         match self {
-            Style::Short => 40,
+            Style::Short | Style::Trees => 40,
             Style::Deep | Style::Few | Style::Idle | Style::Full => 3_000,
             Style::Long | Style::Weights => 3_000,
             Style::Valid => 500,

@@ -6,10 +6,11 @@ use std::sync::Mutex;
 use crate::engine::controller::Answer;
 use crate::engine::refusal::{Refusal, LAST_NUMBER};
 use crate::engine::rules::Rules;
+use crate::engine::tree::MAX_WEIGHT;
 use crate::observation::events::Event;
 use crate::observation::observe::observe;
-use crate::trace::record::{START, WEIGHT};
-use crate::trace::replay::{Outcome, Replay};
+use crate::trace::record::{Record, START, WEIGHT};
+use crate::trace::replay::{Outcome, Phase, Replay};
 use crate::trace::stream::Stream;
 
 /// Refusals no replay can be made to give in reasonable time, or at all: 11
@@ -95,6 +96,11 @@ impl Census {
                 observe(&before, &record, outcome, &replay.phase, &mut |event| {
                     self.hit(event)
                 });
+                if let (Record::Node { .. }, true, Phase::Setup { tree, .. }) =
+                    (record, replay.stopped(), &before)
+                {
+                    self.count_behind(&mut stream, tree.count() + 1)?;
+                }
             }
         }
         self.traces += 1;
@@ -128,6 +134,23 @@ impl Census {
         if for_setup == started {
             self.hit(Event::CutRecordOutOfPhase);
         }
+    }
+
+    /// Counts the nodes from a number on, behind a bad one. No replay reaches
+    /// them.
+    fn count_behind(&mut self, stream: &mut Stream<impl Read>, first: usize) -> io::Result<()> {
+        let mut number = first;
+        while let Some(Ok(record)) = stream.next()? {
+            if let Record::Node { parent, weight } = record {
+                self.hit(Event::NodeBehindBad);
+                let good_weight = (1..=MAX_WEIGHT).contains(&weight);
+                if usize::from(parent) >= number || !good_weight {
+                    self.hit(Event::BadNodeBehindBad);
+                }
+                number += 1;
+            }
+        }
+        Ok(())
     }
 
     fn count_whole(&mut self, records: u64, refused: bool, started: bool) {

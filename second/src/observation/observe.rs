@@ -8,7 +8,7 @@ use crate::engine::cost::{
 };
 use crate::engine::leaf::{relative_cost, Leaf, IDLE_CAP, QUEUE_ROOM};
 use crate::engine::numbers::{floor, is_member, members, Absolute, Relative};
-use crate::engine::refusal::Refusal;
+use crate::engine::refusal::{Fault, Refusal};
 use crate::engine::rules::Rules;
 use crate::engine::tree::{Tree, MAX_LEVEL, MAX_NODES, MAX_WEIGHT, SHARE_FLOOR};
 use crate::observation::events::Event;
@@ -62,7 +62,10 @@ fn observe_setup(tree: &Tree, model: bool, record: &Record, outcome: Outcome, si
     let refused = outcome != Outcome::Quiet;
     match *record {
         Record::Node { parent, weight } if refused => {
-            observe_bad_node(tree, usize::from(parent), weight, sink)
+            sink.when(model, Event::BadNodeAfterModel);
+            sink.when(!model, Event::BadNodeBeforeModel);
+            observe_bad_node(tree, usize::from(parent), weight, sink);
+            observe_first_fault(tree.count(), outcome, sink);
         }
         Record::Node { parent, weight } => {
             sink.when(model, Event::NodeAfterModel);
@@ -74,7 +77,11 @@ fn observe_setup(tree: &Tree, model: bool, record: &Record, outcome: Outcome, si
         }
         Record::Model(_) if model => sink.when(true, Event::SecondModel),
         Record::Model(rates) => observe_rates(&rates, refused, sink),
-        Record::Start { .. } => observe_start(tree, outcome, sink),
+        Record::Start { .. } => {
+            let neither = !model && tree.count() == 1;
+            sink.when(neither, Event::NoNodeOrModel);
+            observe_start(tree, outcome, sink)
+        }
         _ => {
             sink.when(true, Event::RunRecordInSetup);
             let weight = matches!(record, Record::Weight { .. });
@@ -92,8 +99,44 @@ fn observe_bad_node(tree: &Tree, parent: usize, weight: u16, sink: &mut Sink) {
         (parent > tree.count(), Event::ParentAbsent),
         (weight == 0, Event::Weight0),
         (weight == MAX_WEIGHT + 1, Event::Weight10001),
+        (weight == u16::MAX, Event::Weight65535),
         (deep, Event::Level9),
     ]);
+    let bad_parent = parent >= tree.count();
+    let bad_weight = !(1..=MAX_WEIGHT).contains(&weight);
+    sink.when(full && bad_parent, Event::CountAndParent);
+    sink.when(full && bad_weight, Event::CountAndWeight);
+    sink.when(full && deep, Event::CountAndLevel);
+    sink.when(!full && bad_parent && bad_weight, Event::ParentAndWeight);
+    sink.when(!full && bad_weight && deep, Event::WeightAndLevel);
+}
+
+/// From so many nodes on a fault is hard to find by eye.
+const MANY: usize = 30;
+
+/// Events of where a bad node stands.
+fn observe_first_fault(node: usize, outcome: Outcome, sink: &mut Sink) {
+    let (first, among_many, last) = match outcome {
+        Outcome::Refused(Refusal::Tree(Fault::Parent, _)) => (
+            (1, Event::BadParentOfFirst),
+            Event::BadParentAmongMany,
+            Event::BadParentOfLast,
+        ),
+        Outcome::Refused(Refusal::Tree(Fault::Weight, _)) => (
+            (1, Event::BadWeightOfFirst),
+            Event::BadWeightAmongMany,
+            Event::BadWeightOfLast,
+        ),
+        Outcome::Refused(Refusal::Tree(Fault::Level, _)) => (
+            (usize::from(MAX_LEVEL) + 1, Event::BadLevelOfFirst),
+            Event::BadLevelAmongMany,
+            Event::BadLevelOfLast,
+        ),
+        _ => return,
+    };
+    sink.when(node == first.0, first.1);
+    sink.when((MANY + 1..MAX_NODES - 1).contains(&node), among_many);
+    sink.when(node == MAX_NODES - 1, last);
 }
 
 fn observe_rates(rates: &Rates, refused: bool, sink: &mut Sink) {
@@ -186,7 +229,14 @@ fn observe_run(
         (Record::Weight { node, weight }, _) => {
             observe_weight(before, usize::from(*node), *weight, after, sink)
         }
-        _ => sink.when(true, Event::SetupRecordAfterStart),
+        _ => {
+            sink.when(true, Event::SetupRecordAfterStart);
+            if let Record::Node { parent, weight } = *record {
+                let mut tree = before.tree.clone();
+                let bad = tree.add(parent, weight, Rules::TRUE).is_err();
+                sink.when(bad, Event::BadNodeAfterStart);
+            }
+        }
     }
 }
 
@@ -212,6 +262,12 @@ fn observe_refused_weight(
             sink.when(weight == 0, Event::NewWeight0);
             sink.when(weight == MAX_WEIGHT + 1, Event::NewWeight10001);
             sink.when(weight == u16::MAX, Event::NewWeight65535);
+            let leaf = is_member(before.tree.leaves(), node);
+            let active = is_member(before.active, node);
+            sink.when(!leaf, Event::BadWeightOfInnerNode);
+            sink.when(leaf && !active, Event::BadWeightOfInactiveLeaf);
+            sink.when(active, Event::BadWeightOfActiveLeaf);
+            sink.when(node + 1 == count, Event::BadWeightOfLastNode);
             let tree = before.tree.with_weight(node, weight);
             let thin = tree.check_thin(Rules::TRUE).is_err();
             sink.when(thin, Event::WeightRangeBeforeThin);
