@@ -95,8 +95,12 @@ fn add_setup_record(trace: &mut Vec<u8>, random: &mut Random) {
         parent: 0,
         weight: 100,
     };
+    let bad_node = Record::Node {
+        parent: 255,
+        weight: 0,
+    };
     let start = Record::Start { time: 0 };
-    let record = random.pick(&[node, start, Record::Model(BENCH)]);
+    let record = random.pick(&[node, bad_node, start, Record::Model(BENCH)]);
     add(trace, &record);
     add(trace, &Record::Plan);
 }

@@ -22,17 +22,17 @@ pub fn bad_setup(random: &mut Random) -> Vec<Record> {
 pub fn bad_tree(random: &mut Random) -> Vec<Record> {
     let nodes = match random.below(16) {
         0 => edge_tree(random.spread(1_024, u64::from(MAX_WEIGHT)) as u16),
-        1 => Vec::new(),
-        2..=4 => crowded(random),
+        1 | 2 => Vec::new(),
+        3..=5 => crowded(random),
         _ => spoiled(random),
     };
     let mut records = assemble(nodes, BENCH, random);
     // A bad node is refused at once: neither a start nor a model is needed.
-    match random.below(8) {
-        0 | 1 => {
+    match random.below(6) {
+        0 => {
             records.pop();
         }
-        2 => records.retain(|record| !matches!(record, Record::Model(_))),
+        1 => records.retain(|record| !matches!(record, Record::Model(_))),
         _ => {}
     }
     records
@@ -65,13 +65,13 @@ fn crowded(random: &mut Random) -> Nodes {
 /// A tree with a bad node: the first, the last or any; in every third tree
 /// another one behind it.
 fn spoiled(random: &mut Random) -> Nodes {
-    let mut nodes = match random.below(4) {
+    let mut nodes = match random.below(6) {
         0 => good_tree(random),
         1 => {
             let count = random.between(55, MOST_RECORDS);
             tall_tree(random, count)
         }
-        2 => tall_tree(random, MOST_RECORDS),
+        2..=4 => tall_tree(random, MOST_RECORDS),
         _ => {
             let count = random.between(u64::from(MAX_LEVEL) + 1, MOST_RECORDS);
             tall_tree(random, count)
