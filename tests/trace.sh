@@ -15,7 +15,7 @@ cd "$work" || exit 1
 
 limit=60
 memory=32768 # KiB of addresses: what it may take, however long the input is
-due=108
+due=116
 
 # Runs a command within the limits; what it wrote is in out and err, and how it ended in status.
 within() {
@@ -161,6 +161,22 @@ else
     skip 1 "a file that may not be read: root may read any"
 fi
 
+# ---- bad nodes
+node_37=$here/../cases/refusal-21-among-60-nodes.text
+sed 's/ *#.*//; /^$/d' "$node_37" | sed "s/^node 41 100\$/& # refusal 21 37: the parent's number is not smaller/" >told.37
+run bytes "$node_37"
+mv out made
+run text made
+is "a bad node among 60 is named" wrote told.37
+run bytes told.37
+is "and the comment changes no byte" wrote made
+run text < <(printf '\001\000\144\000\001\002'; sleep 0.2; printf '\144\000')
+printf "node 0 100\nnode 2 100 # refusal 21 2: the parent's number is not smaller\n" >told.2
+is "a bad node that comes in pieces" wrote told.2
+run text < <(printf '\001\000\000\000\001\002')
+printf 'node 0 0 # refusal 22 1: the weight is not 1 to 10,000\nraw 0102 # refusal 17: the trace ends inside a record\n' >told.1
+is "a bad node before a cut record" wrote told.1
+
 # ---- bad lines
 printf 'plan\n# a comment\nplans\n' >bad.text
 reason="unknown word 'plans': a line begins with node, model, start, bio, tick, plan, vrate, weight or raw"
@@ -211,6 +227,12 @@ is "a long trace in fixed memory" [ "$status $(wc -l <out) $(wc -c <err)" = "0 $
 is "and each of its lines is there" [ "$(sort -u out)" = "${line%% #*}" ]
 run text < <(cat long)
 is "the same by a pipe" [ "$status $(wc -l <out) $(wc -c <err)" = "0 $count 0" ]
+run text < <(printf '\001\001\144\000'; cat long)
+is "a bad node before a long trace" [ "$status $(wc -l <out) $(wc -c <err)" = "0 $((count + 1)) 0" ]
+is "is named, and nothing behind it" [ "$(grep -n '#' out)" = "1:node 1 100 # refusal 21 1: the parent's number is not smaller" ]
+run text < <(yes node 0 100 | head -n $count | "$program" bytes)
+is "a long trace of nodes" [ "$status $(wc -l <out) $(wc -c <err)" = "0 $count 0" ]
+is "has one that is bad, the 64th" [ "$(grep -n '#' out)" = '64:node 0 100 # refusal 20 0: there are at most 64 nodes, the root counted' ]
 head -c 20000000 /dev/zero >zeros
 run text zeros
 is "20 MB that are no trace" [ "$status $(wc -l <out) $(wc -c <err)" = "0 625000 0" ]

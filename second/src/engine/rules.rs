@@ -45,6 +45,8 @@ named_list! {
         RefusedMovesEnd = "a refused bio moves the end",
         // Tree and base shares
         NodesOneLess = "refusal 20 at the 63rd node record",
+        NoNodeAccepted = "a start without a node accepted",
+        OneNodeRefused = "refusal 20 at start with one node record",
         WeightZero = "a weight of 0 accepted",
         WeightOneLess = "refusal 22 at a weight of exactly 10,000",
         WeightOneMore = "a weight of 10,001 accepted",

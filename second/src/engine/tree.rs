@@ -4,7 +4,8 @@ use crate::engine::numbers::{is_member, members, WHOLE};
 use crate::engine::refusal::{Fault, Refusal};
 use crate::engine::rules::{Mutant, Rules};
 
-/// The most nodes, counting the root.
+/// The fewest and the most nodes, counting the root.
+const MIN_NODES: u64 = 2;
 pub const MAX_NODES: usize = 64;
 pub const MAX_LEVEL: u8 = 8;
 pub const MAX_WEIGHT: u16 = 10_000;
@@ -133,7 +134,7 @@ impl Tree {
     /// The tree of a list with the root in front, where nothing is looked at;
     /// refusals 20 to 23.
     pub fn of(nodes: &[Node], rules: Rules) -> Result<Tree, Refusal> {
-        if !(2..=MAX_NODES).contains(&nodes.len()) {
+        if !(MIN_NODES..=MAX_NODES as u64).contains(&(nodes.len() as u64)) {
             return Err(Refusal::COUNT);
         }
         let mut tree = Tree::new();
@@ -252,7 +253,8 @@ impl Tree {
 
     /// Refusals 20 for too few nodes and 2 for a thin tree.
     pub fn check(&self, rules: Rules) -> Result<(), Refusal> {
-        if self.count < 2 {
+        let least = rules.limit(Mutant::NoNodeAccepted, Mutant::OneNodeRefused, MIN_NODES);
+        if (self.count as u64) < least {
             let fault = told(Fault::Count, START_TOLD, rules);
             let named = u8::from(rules.changed(Mutant::StartNamesFirst));
             return Err(Refusal::Tree(fault, named));

@@ -52,9 +52,10 @@ impl Command {
             Command::Text => {
                 "usage: ./trace text [--] [FILE]
 Lists the trace in FILE, one record a line, on standard output. Bytes that are
-no record are listed raw. Without FILE, or where it is -, standard input is read.
-It ends with 0 if all is well, 1 if the trace cannot be read or the list not
-written, and 2 if its arguments are wrong."
+no record are listed raw. Behind the first bad node, and behind the first such
+bytes, a comment says what is wrong. Without FILE, or where it is -, standard
+input is read. It ends with 0 if all is well, 1 if the trace cannot be read or
+the list not written, and 2 if its arguments are wrong."
             }
             Command::Bytes => {
                 "usage: ./trace bytes [--] [FILE]
