@@ -264,7 +264,7 @@ fn breaks_the_tree_rules(nodes: &[Node]) -> bool {
     let good_node = |node: usize| {
         let (parent, weight) = nodes[node];
         let levels = climbed(nodes, node);
-        usize::from(parent) < node && weight >= 1 && weight <= 10_000 && levels <= Some(8)
+        usize::from(parent) < node && (1..=10_000).contains(&weight) && levels <= Some(8)
     };
     nodes.len() < 2 || nodes.len() > 64 || !(1..nodes.len()).all(good_node)
 }
