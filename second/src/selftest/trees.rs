@@ -5,7 +5,7 @@
 use crate::engine::controller::Controller;
 use crate::engine::cost::{Model, Rates};
 use crate::engine::refusal::{Fault, Refusal};
-use crate::engine::rules::Rules;
+use crate::engine::rules::{Mutant, Rules};
 use crate::engine::tree::{Node, Tree, MAX_LEVEL, MAX_NODES, MAX_WEIGHT};
 use crate::generator::random::Random;
 use crate::generator::setup::BENCH;
@@ -344,19 +344,58 @@ fn any_tree(random: &mut Random) -> Vec<Node> {
     nodes
 }
 
+/// Whether a tree is refused as it was before, and its first fault named.
+fn is_told_well(nodes: &[Node], said: Said) -> bool {
+    said.is_err() == breaks_the_tree_rules(nodes) && is_first(nodes, said)
+}
+
+/// The comparison over generated trees can fail: it notices these mutants.
+pub fn noticed_trees(checks: &mut Checks) -> Said {
+    for mutant in [
+        Mutant::NodesOneLess,
+        Mutant::WeightZero,
+        Mutant::WeightOneMore,
+        Mutant::LevelOneLess,
+        Mutant::LevelOneMore,
+        Mutant::ParentAsWeight,
+        Mutant::WeightAsParent,
+        Mutant::WeightAsLevel,
+        Mutant::LevelAsWeight,
+        Mutant::LevelAsCount,
+        Mutant::WeightBeforeParent,
+        Mutant::LevelBeforeWeight,
+        Mutant::LevelOfLast,
+        Mutant::NodeBeforeNamed,
+        Mutant::NodeBehindNamed,
+        Mutant::ParentNamed,
+        Mutant::RootNamed,
+        Mutant::NodeGivesOne,
+    ] {
+        let mut random = Random::new(0);
+        let noticed = (0..TREES).any(|_| {
+            let nodes = any_tree(&mut random);
+            let said = Tree::of(&nodes, Rules::with(mutant)).map(|_| ());
+            !is_told_well(&nodes, said)
+        });
+        checks.equal(mutant.name(), noticed, true);
+    }
+    Ok(())
+}
+
+/// So many trees of a seed.
+const TREES: u64 = 2_000;
+
 /// Over many trees: refused is what was refused before, the first fault of the
 /// first bad node is named, and no fault comes too seldom to tell.
 pub fn generated_trees(checks: &mut Checks) -> Said {
-    const TREES: u64 = 2_000;
     for seed in 0..10 {
         let mut random = Random::new(seed);
-        let (mut refused, mut first, mut started_alike) = (0, 0, 0);
+        let (mut told_well, mut started_alike) = (0, 0);
         let mut seen = [0; 5];
         for _ in 0..TREES {
             let nodes = any_tree(&mut random);
             let said = checked(&nodes);
-            refused += u64::from(said.is_err() == breaks_the_tree_rules(&nodes));
-            first += u64::from(is_first(&nodes, said));
+            told_well += u64::from(is_told_well(&nodes, said));
             let start = started(&nodes, &BENCH);
             let alike = start == said || said.is_ok() && start == Err(Refusal::Thin);
             started_alike += u64::from(alike);
@@ -366,8 +405,7 @@ pub fn generated_trees(checks: &mut Checks) -> Said {
             }] += 1;
         }
         let name = format!("trees of seed {}", seed);
-        checks.equal(&name, refused, TREES);
-        checks.equal(&name, first, TREES);
+        checks.equal(&name, told_well, TREES);
         checks.equal(&name, started_alike, TREES);
         checks.equal(&name, seen.iter().all(|&count| count > 100), true);
     }
