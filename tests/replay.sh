@@ -121,13 +121,13 @@ mkdir sub
 (cd sub && run ../whole && wrote ../whole.lines)
 is "a relative name" [ $? -eq 0 ]
 
-# ---- an output that is shorter than any buffer: one line of 4 or 5 bytes, from a file and by a pipe, to a file and to a pipe
+# ---- an output that is shorter than any buffer: one line of 4 to 7 bytes, from a file and by a pipe, to a file and to a pipe
 printf '\x06' >short.18 # a plan before start
-printf '\x01\0\0\0' >short.1 # a node of weight 0
+printf '\x01\0\0\0' >short.22 # a node of weight 0
 printf '\x09' >short.16
 { cat setup; printf '\x07\0\0'; } >short.15 # a vrate of 0
 { cat setup; printf '\x04\x02\x00\x07\0\0\0\0\0\0\0\0\0\0\0\0\x10\0\0'; } >short.7 # leaf 2 waits
-for one in 'short.18 R 18' 'short.1 R 1' 'short.16 R 16' 'short.15 R 15' 'short.7 W 7'; do
+for one in 'short.18 R 18' 'short.22 R 22 1' 'short.16 R 16' 'short.15 R 15' 'short.7 W 7'; do
     trace=${one%% *}
     printf '%s\n' "${one#* }" >"$trace.lines"
     run "$trace"
