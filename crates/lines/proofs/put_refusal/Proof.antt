@@ -1,19 +1,15 @@
 -- `lines::put_refusal` meets its contract: the number that is printed is the refusal's own, and so is the node.
 -- Assumes nothing.
-use mathlib.Core.Path.{_≡_, refl}
+use mathlib.Core.Path.{_≡_}
 use mathlib.Core.Logic.{⊎-elim}
 use mathlib.Core.List.{List, [], _∷_}
-use Prim.Native.Nat.{ℕ, _≤_}
+use Prim.Native.Nat.{ℕ}
 use native.Mathlib.Omega.{arith}
-use lib.ListN.{length}
 use borrow.Author.Needs.{needs}
 use types.Run.{OneOf, miss}
 use denote.Enum.Declared.{tagOf}
-use denote.Ref.{now}
-use Rattle.rules.specs.Numbers.{refusalRoom}
 use Rattle.rules.specs.Refusals.{number, named, faultNumber, faultNode}
 use Rattle.rules.specs.Replay.{line, refusalLine}
-use Rattle.rules.specs.Buffers.{Written}
 use Rattle.rules.specs.Laws.Lines.{OfTree, names-a-node-or-nothing, refusal-line-most}
 use Rattle.rules.specs.declared.tree.Fault.{Fault}
 use Rattle.rules.specs.declared.refusals.Refusal.{Refusal}

@@ -3,13 +3,13 @@
 -- Assumes nothing.
 use mathlib.Core.Path.{_≡_, refl, sym, ap, _∙_}
 use mathlib.Core.Bool.{Bool, true, false, cond, not, _&&_, _||_}
-use mathlib.Core.Logic.{_↔_, _⊎_, inl, inr, ⊎-elim}
+use mathlib.Core.Logic.{_↔_, ⊎-elim}
 use mathlib.Core.List.{List, [], _∷_}
 use Prim.Native.Nat.{ℕ, zero, suc, _≤_, _<_}
 use native.Mathlib.Nat.{eq-or-lt-of-le}
 use native.Mathlib.Omega.{arith}
 use lib.Dec.{eqb, leb, ltb}
-use borrow.Author.Tests.{ltb-true, ltb-false, leb-true, leb-false, lt-ltb, le-ltb, le-leb, lt-leb, ne-eqb}
+use borrow.Author.Tests.{ltb-true, ltb-false, leb-true, leb-false, lt-ltb, le-leb, lt-leb, ne-eqb}
 use Rattle.rules.specs.Numbers.{nodesLeast, nodesMost, weightLeast, weightMost, levelMost}
 use Rattle.rules.specs.Words.{anyTo}
 use Rattle.rules.specs.Cost.{ratesInRange}
@@ -17,7 +17,7 @@ use Rattle.rules.specs.Tree.{parent, weight, last, level, countInRange, 
 use Rattle.rules.specs.Refusals.{Check, _⇒_, number, faultNumber, faultNode, firstOf, due, isFault, treeChecks, nodeChecks, rateChecks, startChecks, weightChecks}
 use Rattle.rules.specs.Entries.{treeVerdict}
 use Rattle.rules.specs.Laws.Bools.{never, true-not-false, exactly, exactly-not, between}
-use Rattle.rules.specs.Laws.Trees.{SoundNode, node-sound, sound-node, nodes-sound, sound-nodes}
+use Rattle.rules.specs.Laws.Trees.{SoundNode, sound-node, nodes-sound, sound-nodes}
 use Rattle.rules.specs.Laws.TreeVerdicts.{sound-when, no-sound, refused-exactly-when-broken}
 use Rattle.rules.specs.Laws.Verdicts.{lacks, not-given}
 use Rattle.rules.specs.declared.cost.Rates.{Rates}
@@ -26,8 +26,7 @@ use Rattle.rules.specs.declared.tree.Fault.{Fault}
 use Rattle.rules.specs.declared.tree.Fault.the-variants.{Sound, Count, Parent, Weight, Level}
 use Rattle.rules.specs.declared.refusals.Refusal.{Refusal}
 use Rattle.rules.specs.declared.refusals.Refusal.the-variants.{BadTree, ThinTree, BadRate, NotBelowRoot}
-use Rattle.rules.specs.declared.refusals.Verdict.{Verdict}
-use Rattle.rules.specs.declared.refusals.Verdict.the-variants.{Accepted, Refused}
+use Rattle.rules.specs.declared.refusals.Verdict.the-variants.{Refused}
 
 -- ---- one node: what each fault says of it, in the order parent, weight, level
 abbrev pub WeightInRange : Tree → ℕ → Type 0

@@ -1,9 +1,9 @@
 -- The nodes that a trace has given so far: each was without fault when it came and stays so, and a faulty record names the next.
 -- Assumes nothing.
-use mathlib.Core.Path.{_≡_, refl, sym, ap, _∙_}
+use mathlib.Core.Path.{_≡_, refl, ap, _∙_}
 use mathlib.Core.Bool.{Bool, true, false, cond}
-use mathlib.Core.Logic.{_↔_, ⊎-elim}
-use mathlib.Core.List.{List, [], _∷_}
+use mathlib.Core.Logic.{⊎-elim}
+use mathlib.Core.List.{[]}
 use Prim.Native.Nat.{ℕ, zero, suc, _+_, _-_, _≤_, _<_}
 use native.Mathlib.Nat.{eq-or-lt-of-le}
 use native.Mathlib.Omega.{arith}
@@ -14,9 +14,9 @@ use Rattle.rules.specs.Entries.{started}
 use Rattle.rules.specs.Trace.{kindOf}
 use Rattle.rules.specs.Replay.{inPhase, isStopped, stopsAt, silent, beginning, grown, nodeStep, modelStep, startStep, recordStep, readStep, stepped}
 use Rattle.rules.specs.Invariant.{SoundTree, Playing}
-use Rattle.rules.specs.Laws.Trees.{SoundNode, parent-is}
-use Rattle.rules.specs.Laws.Replays.{accepted-newest, stepped-plays}
-use Rattle.rules.specs.Laws.Faults.{Says, NewestSays, a-node's-first-fault, a-node-record's-fault, fault-given}
+use Rattle.rules.specs.Laws.Trees.{SoundNode, sound-from-nodes}
+use Rattle.rules.specs.Laws.Replays.{accepted-newest}
+use Rattle.rules.specs.Laws.Faults.{Says, NewestSays, a-node-record's-fault, fault-given}
 use Rattle.rules.specs.declared.tree.Tree.{Tree}
 use Rattle.rules.specs.declared.tree.Fault.{Fault}
 use Rattle.rules.specs.declared.tree.Fault.the-variants.{Sound, Count, Parent, Weight, Level}
@@ -69,30 +69,16 @@ module _ (p w : ℕ) (t : Tree) where
     unfolding last
     grown-sound e =
         let newest = accepted-newest (grown p w t) e in
-        let node : (n : ℕ) → 0 < n → n ≤ last (grown p w t) → SoundNode (grown p w t) n =
-        λ n a b.
+        sound-from-nodes (grown p w t) (newest .0) (λ n a b.
         ⊎-elim
         (λ (i : n ≡ last (grown p w t)). rw i (newest .1))
         (λ (l : n < last (grown p w t)). node-stays-sound n a (omega arith))
-        (eq-or-lt-of-le b) in
-        record {
-          most = newest .0;
-          up = λ n a b. node n a b .up;
-          light = λ n a b. node n a b .light;
-          heavy = λ n a b. node n a b .heavy;
-          shallow = λ n a b. node n a b .shallow;
-        }
+        (eq-or-lt-of-le b))
 
 -- ---- so a replay holds no faulty node
 pub beginning-nodes : SoundTree (beginning .tree)
 unfolding last
-beginning-nodes = record {
-  most = omega arith;
-  up = λ n a b. absurd (omega arith);
-  light = λ n a b. absurd (omega arith);
-  heavy = λ n a b. absurd (omega arith);
-  shallow = λ n a b. absurd (omega arith);
-}
+beginning-nodes = sound-from-nodes (beginning .tree) (omega arith) (λ n a b. absurd (omega arith))
 
 module _ (s : Replay) (h : Playing s) (sound : SoundTree (s .tree)) where
   record-keeps-nodes : (r : Record) → SoundTree (recordStep r s .replay .tree)

@@ -2,7 +2,7 @@
 -- Assumes nothing.
 use mathlib.Core.Path.{_≡_, refl, ap, sym, _∙_}
 use mathlib.Core.Logic.{_↔_}
-use mathlib.Core.Bool.{Bool, true, false, cond, not, _&&_}
+use mathlib.Core.Bool.{Bool, true, false, not, _&&_}
 use mathlib.Core.List.{List, [], _∷_}
 use Prim.Native.Nat.{ℕ, _+_, _≤_, _<_}
 use native.Mathlib.Omega.{arith}
@@ -22,7 +22,7 @@ use Rattle.rules.specs.Laws.TreeVerdicts.{sound-when}
 use Rattle.rules.specs.Laws.Faults.{CountInRange, FirstSays, TreeSays, the-first-bad-node, fault-given, no-fault's-number, thin-and-rates-lack}
 use Rattle.rules.specs.Laws.Passes.{start-answers, plan-answers, vrate-answers, weighted-answers}
 use Rattle.rules.specs.Laws.Answers.{answer-is-no-refusal}
-use Rattle.rules.specs.Laws.Verdicts.{lacks, accepted-is-not-refused, not-given, given-exactly-when}
+use Rattle.rules.specs.Laws.Verdicts.{accepted-is-not-refused, given-exactly-when}
 use Rattle.rules.specs.Laws.Submits.{costIn}
 use Rattle.rules.specs.declared.cost.Rates.{Rates}
 use Rattle.rules.specs.declared.cost.Bio.{Bio}

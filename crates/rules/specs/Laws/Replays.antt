@@ -13,7 +13,7 @@ use lib.ListN.{getD}
 use lib.Seq.{getD-set-other}
 use borrow.Author.Tests.{leb-true}
 use Rattle.rules.specs.Numbers.{nodesMost}
-use Rattle.rules.specs.Tree.{parent, last, nodeFault, newestFault, countInRange, treeFault}
+use Rattle.rules.specs.Tree.{last, nodeFault, newestFault, countInRange, treeFault}
 use Rattle.rules.specs.Refusals.{Check, number, firstOf, nodeChecks, rateChecks, treeChecks, startChecks}
 use Rattle.rules.specs.Entries.{noTree, slowest, started, startedBy, submitted, ticked, planned, setBy}
 use Rattle.rules.specs.Trace.{kindOf}

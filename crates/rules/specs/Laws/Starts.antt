@@ -20,7 +20,7 @@ use Rattle.rules.specs.Laws.Bools.{true-not-false}
 use Rattle.rules.specs.Laws.Sums.{sum-none}
 use Rattle.rules.specs.Laws.Tables.{replicate-every, table-back, table-cong}
 use Rattle.rules.specs.Laws.Sets.{has-none}
-use Rattle.rules.specs.Laws.Trees.{sound-tree}
+use Rattle.rules.specs.Laws.Trees.{sound-tree, sound-from-nodes}
 use Rattle.rules.specs.Laws.Shares.{no-base-share}
 use Rattle.rules.specs.Laws.Passes.{start-passes, vrate-passes}
 use Rattle.rules.specs.declared.cost.Rates.{Rates}
@@ -115,13 +115,7 @@ module _ (t : Tree) (m : Model) (time : ℕ) where
 -- ---- start
 no-tree-sound : SoundTree noTree
 unfolding last
-no-tree-sound = record {
-  most = omega arith;
-  up = λ n p l. absurd (omega arith);
-  light = λ n p l. absurd (omega arith);
-  heavy = λ n p l. absurd (omega arith);
-  shallow = λ n p l. absurd (omega arith);
-}
+no-tree-sound = sound-from-nodes noTree (omega arith) (λ n p l. absurd (omega arith))
 
 no-tree-thick : isThin noTree ≡ false
 unfolding isThin last anyTo

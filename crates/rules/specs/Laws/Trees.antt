@@ -100,20 +100,21 @@ sound-nodes t zero h = refl
 sound-nodes t (suc m) h =
     rw (sound-nodes t m (λ n p q. h n p (omega arith)), sound-node t (suc m) (h (suc m) (omega arith) (omega arith)))
 
+pub sound-from-nodes : (t : Tree) → t .count ≤ nodesMost → ((n : ℕ) → 0 < n → n ≤ last t → SoundNode t n) → SoundTree t
+sound-from-nodes t most node = record {
+  most = most;
+  up = λ n p q. node n p q .up;
+  light = λ n p q. node n p q .light;
+  heavy = λ n p q. node n p q .heavy;
+  shallow = λ n p q. node n p q .shallow;
+}
+
 pub sound-tree : (t : Tree) → treeFault t ≡ Sound → SoundTree t
 unfolding treeFault
 sound-tree t e = go (countInRange (t .count)) refl e
   where
     go : (b : Bool) → countInRange (t .count) ≡ b → cond b (faultTo t (last t)) Count ≡ Sound → SoundTree t
-    go true c f =
-        let nodes : (n : ℕ) → 0 < n → n ≤ last t → SoundNode t n = nodes-sound t (last t) f in
-        record {
-          most = count-range (t .count) c .1;
-          up = λ n p q. nodes n p q .up;
-          light = λ n p q. nodes n p q .light;
-          heavy = λ n p q. nodes n p q .heavy;
-          shallow = λ n p q. nodes n p q .shallow;
-        }
+    go true c f = sound-from-nodes t (count-range (t .count) c .1) (nodes-sound t (last t) f)
     go false c f = never (cc)
 
 pub tree-sound : (t : Tree) → nodesLeast ≤ t .count → SoundTree t → treeFault t ≡ Sound
