@@ -55,7 +55,7 @@ fn refused(x: Refusal) -> Outcome
     }
 }
 
-// Start: refusals 1, 2 and 3 in that order, else the fresh state.
+// Start: refusals 20 to 23, 2 and 3 in that order, else the fresh state.
 pub fn start(tree: Tree, rates: Rates, time: u64) -> Outcome
     ensures { λ r. ⌜ r ≡ started tree rates time ⌝ }
     ensures number { λ r. ⌜ verdictPaper (r .answer) ≡ paperOf (startChecks tree rates) [] ⌝ }

@@ -11,7 +11,7 @@ use rules::refusals::Verdict;
 use tree::weights::verdict;
 use tree::weights::with_weight;
 
-// Refusals 19, 1 and 2 in that order, else any donation ends, base shares are worked out anew in the tree with the weight, and
+// Refusals 19, 22 and 2 in that order, else any donation ends, base shares are worked out anew in the tree with the weight, and
 // budgets follow them. A caller that holds the state does the same where it stands.
 pub fn weight(mut c: Controller, node: u8, weight: u16) -> Outcome
     requires { ⌜ Sound c ⌝ }

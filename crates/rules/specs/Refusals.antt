@@ -149,7 +149,8 @@ abbrev pub writeNumber : Write → ℕ
 writeNumber (Wrote n) = 0
 writeNumber (Unwritten x) = number x
 
--- ---- and its values; where it is a refusal, what that names: the letter that the replay prints for it
+-- ---- and its values, which of a refusal are what it names
+-- the letter that the replay prints for it
 abbrev pub answerValues : Answer → List ℕ
 answerValues Issued = letterI ∷ []
 answerValues Waits = letterW ∷ []

@@ -3,8 +3,9 @@
 use mathlib.Core.Path.{_≡_, refl}
 use mathlib.Core.Bool.{true}
 use mathlib.Core.List.{List, [], _∷_, _++_}
-use Prim.Native.Nat.{ℕ}
-use lib.ListN.{replicate, set}
+use Prim.Native.Nat.{ℕ, _-_, _^_}
+use lib.ListN.{length, replicate, set}
+use Rattle.rules.specs.Numbers.{refusalRoom}
 use Rattle.rules.specs.Budget.{fresh}
 use Rattle.rules.specs.Tree.{treeFault}
 use Rattle.rules.specs.Refusals.{Check, faultNumber, number, named, firstOf, verdictPaper, treeChecks, nodeChecks, startChecks, weightChecks}
@@ -129,6 +130,8 @@ faults =
     ∷ see (refusalLine (BadTree (Level 63))) (82 ∷ 32 ∷ 50 ∷ 51 ∷ 32 ∷ 54 ∷ 51 ∷ 10 ∷ [])
     ∷ see (refusalLine ThinTree) (82 ∷ 32 ∷ 50 ∷ 10 ∷ [])
     ∷ see (refusalLine NotBelowRoot) (82 ∷ 32 ∷ 49 ∷ 57 ∷ 10 ∷ [])
+    -- the longest of all fills its room
+    ∷ see (length (refusalLine (BadTree (Level (2 ^ 64 - 1)))) ∷ []) (refusalRoom ∷ [])
     -- R 20 0 of a 64th node record
     ∷ see (stepped (Found (Node 255 0) 9) (within Setup (star 63) slowest (fresh tree5 M 0)) .bytes) (82 ∷ 32 ∷ 50 ∷ 48 ∷ 32 ∷ 48 ∷ 10 ∷ [])
     -- and of a start without nodes

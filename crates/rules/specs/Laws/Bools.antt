@@ -79,6 +79,10 @@ or-not-right false b e = e
 pub exactly : {P Q R : Type 0} → P ↔ Q → Q ↔ R → P ↔ R
 exactly p q = (λ x. q .0 (p .0 x), λ z. p .1 (q .1 z))
 
+-- beside a fact that is there
+pub exactly-beside : {P Q R : Type 0} → R → P ↔ Q → (P × R) ↔ Q
+exactly-beside r p = (λ w. p .0 (w .0), λ q. (p .1 q, r))
+
 pub exactly-pair : {P Q R S : Type 0} → P ↔ R → Q ↔ S → (P × Q) ↔ (R × S)
 exactly-pair p q = (λ w. (p .0 (w .0), q .0 (w .1)), λ w. (p .1 (w .0), q .1 (w .1)))
 

@@ -16,9 +16,9 @@ use Rattle.rules.specs.Cost.{ratesInRange}
 use Rattle.rules.specs.Tree.{parent, weight, last, level, countInRange, weightInRange, nodeFault, earlierFault, faultTo, treeFault, newestFault, isThin, isBelowRoot, withWeight}
 use Rattle.rules.specs.Refusals.{Check, _⇒_, number, faultNumber, faultNode, firstOf, due, isFault, treeChecks, nodeChecks, rateChecks, startChecks, weightChecks}
 use Rattle.rules.specs.Entries.{treeVerdict}
-use Rattle.rules.specs.Laws.Bools.{never, true-not-false, exactly, exactly-not, between}
+use Rattle.rules.specs.Laws.Bools.{never, true-not-false, exactly, exactly-beside, exactly-not, between}
 use Rattle.rules.specs.Laws.Trees.{SoundNode, sound-node, nodes-sound, sound-nodes}
-use Rattle.rules.specs.Laws.TreeVerdicts.{sound-when, no-sound, refused-exactly-when-broken}
+use Rattle.rules.specs.Laws.TreeVerdicts.{sound-when, fault-when, no-sound, refused-exactly-when-broken}
 use Rattle.rules.specs.Laws.Verdicts.{lacks, not-given}
 use Rattle.rules.specs.declared.cost.Rates.{Rates}
 use Rattle.rules.specs.declared.tree.Tree.{Tree}
@@ -159,17 +159,17 @@ module _ (t : Tree) where
       go false c e = exactly-not (countInRange (t .count)) count-test .0 c
 
   -- every node before the named one is without fault, and the named fault is the first of that node's
-  pub the-first-bad-node : (f : Fault) → isFault f ≡ true → (treeFault t ≡ f) ↔ TreeSays t f
-  the-first-bad-node Sound i = absurd (true-not-false i refl)
-  the-first-bad-node Count i = at-the-count
-  the-first-bad-node (Parent n) i = at-a-node (Parent n) i (λ e. cc)
-  the-first-bad-node (Weight n) i = at-a-node (Weight n) i (λ e. cc)
-  the-first-bad-node (Level n) i = at-a-node (Level n) i (λ e. cc)
+  pub the-first-bad-node : (f : Fault) → ((treeFault t ≡ f) × (isFault f ≡ true)) ↔ TreeSays t f
+  the-first-bad-node Sound = (λ w. true-not-false (w .1) refl, λ w. absurd w)
+  the-first-bad-node Count = exactly-beside refl at-the-count
+  the-first-bad-node (Parent n) = exactly-beside refl (at-a-node (Parent n) refl (λ e. cc))
+  the-first-bad-node (Weight n) = exactly-beside refl (at-a-node (Weight n) refl (λ e. cc))
+  the-first-bad-node (Level n) = exactly-beside refl (at-a-node (Level n) refl (λ e. cc))
 
 -- so the check of a tree, whose 20 to 23 carry the first fault; start's are in `Laws/Refused`
-pub the-check-names : (t : Tree) (f : Fault) → isFault f ≡ true → (treeVerdict t ≡ Refused (BadTree f)) ↔ TreeSays t f
-the-check-names t f i =
-    exactly (refused-exactly-when-broken t f) (exactly (λ w. w .0, λ e. (e, no-sound f i)) (the-first-bad-node t f i))
+pub the-check-names : (t : Tree) (f : Fault) → (treeVerdict t ≡ Refused (BadTree f)) ↔ TreeSays t f
+the-check-names t f =
+    exactly (refused-exactly-when-broken t f) (exactly (λ w. (w .0, fault-when f (w .1)), λ w. (w .0, no-sound f (w .1))) (the-first-bad-node t f))
 
 -- ---- a node record: the count, then the faults of the node that it would give
 abbrev pub NewestSays : Tree → Fault → Type 0
@@ -199,12 +199,12 @@ module _ (t : Tree) where
       go true c e = absurd (a-node's-first-fault t (last t) Count .0 e)
       go false c e = leb-false (t .count) nodesMost c
 
-  pub a-node-record's-fault : (f : Fault) → isFault f ≡ true → (newestFault t ≡ f) ↔ NewestSays t f
-  a-node-record's-fault Sound i = absurd (true-not-false i refl)
-  a-node-record's-fault Count i = past-the-last
-  a-node-record's-fault (Parent k) i = at-the-newest (Parent k) (λ e. cc)
-  a-node-record's-fault (Weight k) i = at-the-newest (Weight k) (λ e. cc)
-  a-node-record's-fault (Level k) i = at-the-newest (Level k) (λ e. cc)
+  a-node-record's-fault : (f : Fault) → ((newestFault t ≡ f) × (isFault f ≡ true)) ↔ NewestSays t f
+  a-node-record's-fault Sound = (λ w. true-not-false (w .1) refl, λ w. absurd w)
+  a-node-record's-fault Count = exactly-beside refl past-the-last
+  a-node-record's-fault (Parent k) = exactly-beside refl (at-the-newest (Parent k) (λ e. cc))
+  a-node-record's-fault (Weight k) = exactly-beside refl (at-the-newest (Weight k) (λ e. cc))
+  a-node-record's-fault (Level k) = exactly-beside refl (at-the-newest (Level k) (λ e. cc))
 
 -- ---- as refusals: a fault's check stands first, and no check behind it has its number
 pub fault-given : (f g : Fault) (rest : List Check) → lacks (faultNumber f) rest ≡ true
@@ -215,7 +215,19 @@ fault-given f g rest l = go (isFault g) refl
     go true h = (λ e. let i : g ≡ f = cc in (i, rw i at h), λ w. ap (λ (k : Fault). Refused (BadTree k)) (w .0))
     go false h = (λ e. absurd (not-given (BadTree f) rest l e), λ w. absurd (true-not-false (w .1) (rw (w .0) at h)))
 
--- the number of a fault is none of those below 20, and 0 alone where there is none
+pub a-node-record-names : (t : Tree) (f : Fault) → (firstOf (nodeChecks t) ≡ Refused (BadTree f)) ↔ NewestSays t f
+unfolding nodeChecks
+a-node-record-names t f = exactly (fault-given f (newestFault t) [] refl) (a-node-record's-fault t f)
+
+-- the number of a fault is one of the four
+pub a-fault-is-20-to-23 : (f : Fault) → isFault f ≡ true → (20 ≤ faultNumber f) × (faultNumber f ≤ 23)
+a-fault-is-20-to-23 Sound i = absurd (true-not-false i refl)
+a-fault-is-20-to-23 Count i = (omega arith, omega arith)
+a-fault-is-20-to-23 (Parent n) i = (omega arith, omega arith)
+a-fault-is-20-to-23 (Weight n) i = (omega arith, omega arith)
+a-fault-is-20-to-23 (Level n) i = (omega arith, omega arith)
+
+-- so it is none of those below 20; 0 stands where there is none
 pub no-fault's-number : (f : Fault) (k : ℕ) → 0 < k → k < 20 → eqb (faultNumber f) k ≡ false
 no-fault's-number Sound k a b = ne-eqb 0 k (λ e. omega arith)
 no-fault's-number Count k a b = ne-eqb 20 k (λ e. omega arith)

@@ -9,8 +9,8 @@ use native.Mathlib.Nat.{div-lt-iff-lt-mul, pow-suc}
 use native.Mathlib.Omega.{arith}
 use lib.Dec.{ltb}
 use native.Mathlib.Numerals.{add-one}
-use lib.ListN.{length, take, getD, length-append}
-use lib.Seq.{take-suc}
+use lib.ListN.{length, take, drop, getD, length-append}
+use lib.Seq.{take-suc, drop-append-seam}
 use borrow.Author.Tests.{ltb-true, ltb-false, lt-ltb, le-ltb}
 use Rattle.rules.specs.Words.{joinTo, has}
 use Rattle.rules.specs.Numbers.{refusalRoom}
@@ -71,7 +71,7 @@ pub digits-most : (k n : ℕ) → n < 10 ^ suc k → length (digits n) ≤ suc k
 unfolding digits
 digits-most k n h = digits-in-most 20 k n h
 
--- no number has more digits than one of 64 bits
+-- no number is written with more digits than one of 64 bits has
 digits-in-room-of : (more n : ℕ) → length (digitsIn more n) ≤ more
 digits-in-room-of zero n = rw digits-in-none (omega arith)
 digits-in-room-of (suc more) n = go (ltb n 10) refl (digits-in-room-of more (n / 10))
@@ -112,9 +112,10 @@ share-line-most n share h f =
 pub record OfTree (x : Refusal) : Type 0 where
   pub fault : Fault
   pub is : x ≡ BadTree fault
+  pub node : named x ≡ faultNode fault ∷ []
 
 pub names-a-node-or-nothing : (x : Refusal) → OfTree x ⊎ (named x ≡ [])
-names-a-node-or-nothing (BadTree f) = inl (record { fault = f; is = refl })
+names-a-node-or-nothing (BadTree f) = inl (record { fault = f; is = refl; node = refl })
 names-a-node-or-nothing ThinTree = inr refl
 names-a-node-or-nothing BadRate = inr refl
 names-a-node-or-nothing NoLeaf = inr refl
@@ -215,9 +216,80 @@ line-tells letter a b ms ns h k e =
         let x = rw (two-digits a (ltb-false a 10 p) h, two-digits b (ltb-false b 10 q) k) at f in
         omega (arith, ap (λ (l : List ℕ). getD l 2 0) x, ap (λ (l : List ℕ). getD l 3 0) x)
 
-pub refusal-line-tells : (x y : Refusal) → refusalLine x ≡ refusalLine y → number x ≡ number y
+pub refusal-line-tells-number : (x y : Refusal) → refusalLine x ≡ refusalLine y → number x ≡ number y
 unfolding refusalLine
-refusal-line-tells x y e = line-tells 82 (number x) (number y) (named x) (named y) (number-range x .0) (number-range y .0) e
+refusal-line-tells-number x y e = line-tells 82 (number x) (number y) (named x) (named y) (number-range x .0) (number-range y .0) e
+
+-- ---- and what it names: decimal digits spell their number, behind one that was read already
+spelled : ℕ → List ℕ → ℕ
+spelled n [] = n
+spelled n (d ∷ ds) = spelled (10 * n + (d - 48)) ds
+
+spelled-last : (n : ℕ) (ds : List ℕ) (d : ℕ) → spelled n (ds ++ (d ∷ [])) ≡ 10 * spelled n ds + (d - 48)
+unfolding spelled
+spelled-last n [] d = refl
+spelled-last n (e ∷ ds) d = spelled-last (10 * n + (e - 48)) ds d
+
+digits-in-spell : (more n : ℕ) → n < 10 ^ more → spelled 0 (digitsIn more n) ≡ n
+unfolding spelled
+digits-in-spell zero n h = rw digits-in-none (omega arith)
+digits-in-spell (suc more) n h = go (ltb n 10) refl (digits-in-spell more (n / 10) (tenth-below more n h))
+  where
+    go : (b : Bool) → ltb n 10 ≡ b → spelled 0 (digitsIn more (n / 10)) ≡ n / 10 → spelled 0 (digitsIn (suc more) n) ≡ n
+    go true e i = rw (digits-in-short more n (ltb-true n 10 e)) (omega arith)
+    go false e i = rw (digits-in-long more n (ltb-false n 10 e), spelled-last, i) (omega arith)
+
+digits-spell : (n : ℕ) → n < 2 ^ 64 → spelled 0 (digits n) ≡ n
+unfolding digits
+digits-spell n h = digits-in-spell 20 n (omega arith)
+
+-- a node, with the line feed behind it
+node-told : (a b : ℕ) → a < 2 ^ 64 → b < 2 ^ 64 → digits a ++ (10 ∷ []) ≡ digits b ++ (10 ∷ []) → a ≡ b
+node-told a b h k e =
+    let f = sym (spelled-last 0 (digits a) 10) ∙ ap (spelled 0) e ∙ spelled-last 0 (digits b) 10 in
+    omega (arith, rw (digits-spell a h, digits-spell b k) at f)
+
+node-written : {x : Refusal} (w : OfTree x) → numbers (named x) ++ (10 ∷ []) ≡ 32 ∷ (digits (faultNode (w .fault)) ++ (10 ∷ []))
+node-written w =
+    ap (λ (l : List ℕ). numbers l ++ (10 ∷ [])) (w .node) ∙ ap (λ (l : List ℕ). 32 ∷ (l ++ (10 ∷ []))) (append-nil (digits (faultNode (w .fault))))
+
+-- what stands behind the number of a line R
+behind-told : (x : Refusal) → drop (suc (suc (length (digits (number x))))) (refusalLine x) ≡ numbers (named x) ++ (10 ∷ [])
+unfolding refusalLine
+behind-told x = rw (line-begins 82 (number x) (named x)) (drop-append-seam (digits (number x)) (numbers (named x) ++ (10 ∷ [])))
+
+-- every node fits the bits of its type
+abbrev NodesFit : Refusal → Type 0
+NodesFit x = (n : ℕ) → named x ≡ n ∷ [] → n < 2 ^ 64
+
+-- a line R tells its number and its node
+pub refusal-line-tells : (x y : Refusal) → NodesFit x → NodesFit y → refusalLine x ≡ refusalLine y → (number x ≡ number y) × (named x ≡ named y)
+refusal-line-tells x y h k e = (same, ⊎-elim node nothing (names-a-node-or-nothing x))
+  where
+    same : number x ≡ number y
+    same = refusal-line-tells-number x y e
+
+    rest : numbers (named x) ++ (10 ∷ []) ≡ numbers (named y) ++ (10 ∷ [])
+    rest =
+        sym (behind-told x) ∙ ap (λ (l : List ℕ). drop (suc (suc (length (digits (number x))))) l) e
+        ∙ ap (λ (n : ℕ). drop (suc (suc (length (digits n)))) (refusalLine y)) same ∙ behind-told y
+
+    node : OfTree x → named x ≡ named y
+    node v =
+        ⊎-elim
+        (λ (w : OfTree y).
+        let f = sym (node-written v) ∙ rest ∙ node-written w in
+        let i = node-told (faultNode (v .fault)) (faultNode (w .fault)) (h _ (v .node)) (k _ (w .node)) (ap (λ (l : List ℕ). drop 1 l) f) in
+        v .node ∙ ap (λ (n : ℕ). n ∷ []) i ∙ sym (w .node))
+        (λ (q : named y ≡ []). let f = rw (v .node, q) at rest in absurd (omega (arith, ap (λ (l : List ℕ). getD l 0 0) f)))
+        (names-a-node-or-nothing y)
+
+    nothing : named x ≡ [] → named x ≡ named y
+    nothing p =
+        ⊎-elim
+        (λ (w : OfTree y). let f = rw (p, w .node) at rest in absurd (omega (arith, ap (λ (l : List ℕ). getD l 0 0) f)))
+        (λ (q : named y ≡ []). p ∙ sym q)
+        (names-a-node-or-nothing y)
 
 -- ---- releases, one after the other
 pub releases-append : (a b : List ℕ) → releaseLines (a ++ b) ≡ releaseLines a ++ releaseLines b

@@ -3,20 +3,22 @@
 use mathlib.Core.Path.{_≡_, refl, ap, _∙_}
 use mathlib.Core.Bool.{Bool, true, false, cond}
 use mathlib.Core.Logic.{⊎-elim}
-use mathlib.Core.List.{[]}
 use Prim.Native.Nat.{ℕ, zero, suc, _+_, _-_, _≤_, _<_}
 use native.Mathlib.Nat.{eq-or-lt-of-le}
 use native.Mathlib.Omega.{arith}
 use lib.Seq.{getD-set-other}
-use Rattle.rules.specs.Tree.{parent, weight, last, levelIn, level, newestFault}
-use Rattle.rules.specs.Refusals.{faultNode, firstOf, isFault, nodeChecks, rateChecks}
+use borrow.Author.Tests.{le-leb}
+use Rattle.rules.specs.Numbers.{nodesLeast}
+use Rattle.rules.specs.Tree.{parent, weight, last, levelIn, level, countInRange, faultTo, treeFault, newestFault}
+use Rattle.rules.specs.Refusals.{faultNode, firstOf, nodeChecks, rateChecks}
 use Rattle.rules.specs.Entries.{started}
 use Rattle.rules.specs.Trace.{kindOf}
 use Rattle.rules.specs.Replay.{inPhase, isStopped, stopsAt, silent, beginning, grown, nodeStep, modelStep, startStep, recordStep, readStep, stepped}
 use Rattle.rules.specs.Invariant.{SoundTree, Playing}
-use Rattle.rules.specs.Laws.Trees.{SoundNode, sound-from-nodes}
+use Rattle.rules.specs.Laws.Trees.{SoundNode, sound-nodes, sound-from-nodes}
 use Rattle.rules.specs.Laws.Replays.{accepted-newest}
-use Rattle.rules.specs.Laws.Faults.{Says, NewestSays, a-node-record's-fault, fault-given}
+use Rattle.rules.specs.Laws.Refused.{start-names}
+use Rattle.rules.specs.Laws.Faults.{Says, TreeSays, NewestSays, a-node-record-names}
 use Rattle.rules.specs.declared.tree.Tree.{Tree}
 use Rattle.rules.specs.declared.tree.Fault.{Fault}
 use Rattle.rules.specs.declared.tree.Fault.the-variants.{Sound, Count, Parent, Weight, Level}
@@ -80,6 +82,11 @@ pub beginning-nodes : SoundTree (beginning .tree)
 unfolding last
 beginning-nodes = sound-from-nodes (beginning .tree) (omega arith) (λ n a b. absurd (omega arith))
 
+-- where every node before the newest is without fault, the newest one's is the first
+newest-is-first : (t : Tree) (m : ℕ) → last t ≡ suc m → nodesLeast ≤ t .count → faultTo t m ≡ Sound → newestFault t ≡ treeFault t
+unfolding newestFault treeFault countInRange faultTo
+newest-is-first t m e least before = rw (e, le-leb nodesLeast (t .count) least, before)
+
 module _ (s : Replay) (h : Playing s) (sound : SoundTree (s .tree)) where
   record-keeps-nodes : (r : Record) → SoundTree (recordStep r s .replay .tree)
   unfolding recordStep nodeStep modelStep startStep
@@ -122,17 +129,35 @@ module _ (s : Replay) (h : Playing s) (sound : SoundTree (s .tree)) where
   -- is the first of its own
   pub a-faulty-record-names-its-node : (p w : ℕ) (f : Fault) → firstOf (nodeChecks (grown p w (s .tree))) ≡ Refused (BadTree f) → (f ≡ Count → ⊥)
       → (faultNode f ≡ s .tree .count) × ((k : ℕ) → 0 < k → k < faultNode f → SoundNode (grown p w (s .tree)) k) × Says (grown p w (s .tree)) (faultNode f) f
-  unfolding nodeChecks last
+  unfolding last
   a-faulty-record-names-its-node p w f e other =
-      let given = fault-given f (newestFault (grown p w (s .tree))) [] refl .0 e in
-      let says = newest-says f (given .1) other (a-node-record's-fault (grown p w (s .tree)) f (given .1) .0 (given .0)) in
+      let says = newest-says f other (a-node-record-names (grown p w (s .tree)) f .0 e) in
       let is : faultNode f ≡ s .tree .count = omega (arith, says .0) in
       (is, λ k a l. node-stays-sound p w (s .tree) (h .least) sound k a (omega (arith, is)), rw (says .0) (says .1))
     where
-      newest-says : (g : Fault) → isFault g ≡ true → (g ≡ Count → ⊥) → NewestSays (grown p w (s .tree)) g
+      newest-says : (g : Fault) → (g ≡ Count → ⊥) → NewestSays (grown p w (s .tree)) g
           → (faultNode g ≡ s .tree .count + 1 - 1) × Says (grown p w (s .tree)) (s .tree .count + 1 - 1) g
-      newest-says Sound i n q = absurd q
-      newest-says Count i n q = absurd (n refl)
-      newest-says (Parent k) i n q = (q .1 .0, q .1)
-      newest-says (Weight k) i n q = (q .1 .0, q .1)
-      newest-says (Level k) i n q = (q .1 .0, q .1)
+      newest-says Sound n q = absurd q
+      newest-says Count n q = absurd (n refl)
+      newest-says (Parent k) n q = (q .1 .0, q .1)
+      newest-says (Weight k) n q = (q .1 .0, q .1)
+      newest-says (Level k) n q = (q .1 .0, q .1)
+
+  -- and its fault is the one that the check of the whole tree so far would find
+  pub a-record-is-judged-as-its-tree : (p w : ℕ) → newestFault (grown p w (s .tree)) ≡ treeFault (grown p w (s .tree))
+  unfolding last
+  a-record-is-judged-as-its-tree p w =
+      let most : (k : ℕ) → k ≤ s .tree .count - 1 → k < s .tree .count = λ k l. omega (arith, h .least) in
+      newest-is-first (grown p w (s .tree)) (s .tree .count - 1) (omega (arith, h .least)) (omega (arith, h .least))
+      (sound-nodes (grown p w (s .tree)) (s .tree .count - 1) (λ k a l. node-stays-sound p w (s .tree) (h .least) sound k a (most k l)))
+
+  -- ".. and start for too few nodes, then for 2": the nodes were judged as they came
+  pub a-trace's-start-names-no-node : (time : ℕ) (f : Fault) → started (s .tree) (s .rates) time .answer ≡ Refused (BadTree f) → f ≡ Count
+  a-trace's-start-names-no-node time f e = go f (start-names (s .tree) (s .rates) time f .0 e)
+    where
+      go : (g : Fault) → TreeSays (s .tree) g → g ≡ Count
+      go Sound q = absurd q
+      go Count q = refl
+      go (Parent n) q = absurd (omega (arith, q .2 .1, sound .up n (q .1 .below) (q .1 .there)))
+      go (Weight n) q = absurd (q .2 .2 (sound .light n (q .1 .below) (q .1 .there), sound .heavy n (q .1 .below) (q .1 .there)))
+      go (Level n) q = absurd (omega (arith, q .2 .3, sound .shallow n (q .1 .below) (q .1 .there)))

@@ -331,27 +331,27 @@ fault-test : (f : Fault) → (isFault f ≡ false) ↔ (f ≡ NoFault)
 fault-test f = (sound-when f, λ e. rw e)
 
 module _ (t : Tree) (r : Rates) (time : ℕ) where
-  -- 20 to 23 carry the first fault of the tree
-  start-names : (f : Fault) → (started t r time .answer ≡ Refused (BadTree f)) ↔ ((treeFault t ≡ f) × (isFault f ≡ true))
+  start-given : (f : Fault) → (started t r time .answer ≡ Refused (BadTree f)) ↔ ((treeFault t ≡ f) × (isFault f ≡ true))
   unfolding startChecks treeChecks rateChecks
-  start-names f =
+  start-given f =
       exactly (start-refuses t r time (BadTree f))
       (fault-given f (treeFault t) ((isThin t ⇒ ThinTree) ∷ (not (ratesInRange r) ⇒ BadRate) ∷ []) (thin-and-rates-lack f (isThin t) (not (ratesInRange r))))
 
-  start-says : (f : Fault) → isFault f ≡ true → (started t r time .answer ≡ Refused (BadTree f)) ↔ TreeSays t f
-  start-says f i = exactly (start-names f) (exactly (λ w. w .0, λ e. (e, i)) (the-first-bad-node t f i))
+  -- 20 to 23 carry the first fault of the tree, and no other one
+  pub start-names : (f : Fault) → (started t r time .answer ≡ Refused (BadTree f)) ↔ TreeSays t f
+  start-names f = exactly (start-given f) (the-first-bad-node t f)
 
   pub refusal-20-exactly-when : (started t r time .answer ≡ Refused (BadTree Count)) ↔ (CountInRange t → ⊥)
-  refusal-20-exactly-when = start-says Count refl
+  refusal-20-exactly-when = start-names Count
 
   pub refusal-21-exactly-when : (n : ℕ) → (started t r time .answer ≡ Refused (BadTree (Parent n))) ↔ FirstSays t (Parent n)
-  refusal-21-exactly-when n = start-says (Parent n) refl
+  refusal-21-exactly-when n = start-names (Parent n)
 
   pub refusal-22-exactly-when : (n : ℕ) → (started t r time .answer ≡ Refused (BadTree (Weight n))) ↔ FirstSays t (Weight n)
-  refusal-22-exactly-when n = start-says (Weight n) refl
+  refusal-22-exactly-when n = start-names (Weight n)
 
   pub refusal-23-exactly-when : (n : ℕ) → (started t r time .answer ≡ Refused (BadTree (Level n))) ↔ FirstSays t (Level n)
-  refusal-23-exactly-when n = start-says (Level n) refl
+  refusal-23-exactly-when n = start-names (Level n)
 
   pub refusal-2-exactly-when : (started t r time .answer ≡ Refused ThinTree) ↔ ((treeFault t ≡ NoFault) × (isThin t ≡ true))
   unfolding startChecks treeChecks rateChecks

@@ -21,7 +21,7 @@ use Rattle.rules.specs.Replay.{Step, refusalLine, inPhase, isStopped, wi
 use Rattle.rules.specs.Invariant.{Sound, Playing}
 use Rattle.rules.specs.Laws.Bools.{never, true-not-false, is-false}
 use Rattle.rules.specs.Laws.Verdicts.{lacks, not-given}
-use Rattle.rules.specs.Laws.Lines.{refusal-line-tells, refusal-line-some}
+use Rattle.rules.specs.Laws.Lines.{refusal-line-tells-number, refusal-line-some}
 use Rattle.rules.specs.Laws.Faults.{no-fault's-number}
 use Rattle.rules.specs.Laws.Passes.{check-passed, start-answers}
 use Rattle.rules.specs.Laws.Trees.{SoundNode, parent-is, node-sound}
@@ -244,7 +244,7 @@ module _ (s : Replay) (goes : isStopped (s .phase) ≡ false) where
       go : (v : Verdict) → firstOf (w .checks) ≡ v → w .step v ≡ stopsAt WrongPhase s → ⊥
       go Accepted f i = true-not-false (ap (λ (t : Step). isStopped (t .replay .phase)) i) (w .on)
       go (Refused x) f i =
-          let same : number x ≡ 18 = refusal-line-tells x WrongPhase (ap (λ (t : Step). t .bytes) (sym (w .stops x) ∙ i)) in
+          let same : number x ≡ 18 = refusal-line-tells-number x WrongPhase (ap (λ (t : Step). t .bytes) (sym (w .stops x) ∙ i)) in
           not-given x (w .checks) (rw same (w .no-18)) f
 
   call-not-18 : (r : Record) → 4 ≤ kindOf r → recordStep r s ≡ stopsAt WrongPhase s → ⊥
