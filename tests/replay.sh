@@ -74,8 +74,11 @@ only_said() { [ ! -s out ] && said "$1"; }
 # It failed, wrote nothing, and said one line.
 failed_saying() { [ "$status" -eq 1 ] && [ ! -s out ] && [ "$(wc -l <err)" -eq 1 ] && [ "$(cat err)" = "$1" ]; }
 
+# The line of a refusal: 20 to 23 name a node, and no other does.
+refused='R (2[0-3] [0-9]+|[2-9]|1[0-9]|28)'
+
 # It ended, said nothing, and its last line is one after which the replay stops.
-stopped() { [ "$status" -eq 0 ] && [ ! -s err ] && tail -n 1 out | grep -qE '^R [0-9]+$'; }
+stopped() { [ "$status" -eq 0 ] && [ ! -s err ] && tail -n 1 out | grep -qE "^$refused\$"; }
 
 bytes() { # NUMBER WIDTH: little-endian, as escapes for printf
     local n=$1 i
@@ -223,7 +226,7 @@ for ((n = 0; n < size; n++)); do
         } >changed
         run changed
         if [ -n "$second" ]; then "$second" replay changed >changed.lines; else cp out changed.lines; fi
-        if ! wrote changed.lines || grep -qvE '^([IWDr] [0-9]+|P [0-9]+ [0-9]+|R [0-9]+)$' out; then
+        if ! wrote changed.lines || grep -qvE "^([IWDr] [0-9]+|P [0-9]+ [0-9]+|$refused)\$" out; then
             fine=0
             echo "byte $n changed by $flip"
         fi
