@@ -2,7 +2,7 @@
 -- ones too, so what is said of every list of calls is said of every trace replayed.
 -- Assumes nothing.
 use mathlib.Core.Path.{_≡_, refl, ap, subst, _∙_}
-use mathlib.Core.Bool.{Bool, true, false, cond}
+use mathlib.Core.Bool.{true, false, cond}
 use mathlib.Core.List.{List, [], _∷_, _++_}
 use Prim.Native.Nat.{ℕ, zero, suc, _≤_}
 use Rattle.rules.specs.Tree.{countInRange, treeFault}
@@ -14,7 +14,7 @@ use Rattle.rules.specs.Chunks.{callOf, isCall}
 use Rattle.rules.specs.Ledger.{Call, after, generated, charged}
 use Rattle.rules.specs.Demand3.Sentences.{run, sumOf, never-overspent}
 use Rattle.rules.specs.Invariant.{SoundTree, Playing}
-use Rattle.rules.specs.Laws.Replays.{beginning-plays, stepped-plays, unread-stops, out-of-phase-stops, in-phase-is-carried-out}
+use Rattle.rules.specs.Laws.Replays.{beginning-plays, step-keeps, stepped-plays, unread-stops, out-of-phase-stops, in-phase-is-carried-out}
 use Rattle.rules.specs.Laws.Nodes.{beginning-nodes, step-keeps-nodes}
 use Rattle.rules.specs.declared.cost.Rates.{Rates}
 use Rattle.rules.specs.declared.tree.Tree.{Tree}
@@ -168,18 +168,7 @@ record-reaches (Vrate v) s h = one-more (Call.set (SetVrate v)) h
 record-reaches (Weight n w) s h = one-more (Call.set (SetWeight n w)) h
 
 step-reaches : (read : Read) (s : Replay) → Reached (s .state) → Reached (stepped read s .replay .state)
-unfolding stepped readStep
-step-reaches read s h = by-phase (isStopped (s .phase)) read
-  where
-    in-its-phase : (b : Bool) (r : Record) → Reached (cond b (recordStep r s) (stopsAt WrongPhase s) .replay .state)
-    in-its-phase true r = record-reaches r s h
-    in-its-phase false r = h
-
-    by-phase : (b : Bool) (read : Read) → Reached (cond b (silent s) (readStep read s) .replay .state)
-    by-phase true read = h
-    by-phase false (Found r next) = in-its-phase (inPhase (s .phase) (kindOf r)) r
-    by-phase false End = h
-    by-phase false (Unread x) = h
+step-reaches read s h = step-keeps (λ (t : Replay). Reached (t .state)) s h (λ x. h) (λ r. record-reaches r s h) read
 
 -- until start a replay has the state of a refused one
 beginning-reached : Reached (beginning .state)

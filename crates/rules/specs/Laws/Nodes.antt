@@ -1,7 +1,6 @@
 -- The nodes that a trace has given so far: each was without fault when it came and stays so, and a faulty record names the next.
 -- Assumes nothing.
 use mathlib.Core.Path.{_≡_, refl, ap, _∙_}
-use mathlib.Core.Bool.{Bool, true, false, cond}
 use mathlib.Core.Logic.{⊎-elim}
 use Prim.Native.Nat.{ℕ, zero, suc, _+_, _-_, _≤_, _<_}
 use native.Mathlib.Nat.{eq-or-lt-of-le}
@@ -12,23 +11,21 @@ use Rattle.rules.specs.Numbers.{nodesLeast}
 use Rattle.rules.specs.Tree.{parent, weight, last, levelIn, level, countInRange, faultTo, treeFault, newestFault}
 use Rattle.rules.specs.Refusals.{faultNode, firstOf, nodeChecks, rateChecks}
 use Rattle.rules.specs.Entries.{started}
-use Rattle.rules.specs.Trace.{kindOf}
-use Rattle.rules.specs.Replay.{inPhase, isStopped, stopsAt, silent, beginning, grown, nodeStep, modelStep, startStep, recordStep, readStep, stepped}
+use Rattle.rules.specs.Replay.{beginning, grown, nodeStep, modelStep, startStep, recordStep, stepped}
 use Rattle.rules.specs.Invariant.{SoundTree, Playing}
 use Rattle.rules.specs.Laws.Trees.{SoundNode, sound-nodes, sound-from-nodes}
-use Rattle.rules.specs.Laws.Replays.{accepted-newest}
+use Rattle.rules.specs.Laws.Replays.{accepted-newest, step-keeps}
 use Rattle.rules.specs.Laws.Refused.{start-names}
 use Rattle.rules.specs.Laws.Faults.{Says, TreeSays, NewestSays, a-node-record-names}
 use Rattle.rules.specs.declared.tree.Tree.{Tree}
 use Rattle.rules.specs.declared.tree.Fault.{Fault}
 use Rattle.rules.specs.declared.tree.Fault.the-variants.{Sound, Count, Parent, Weight, Level}
-use Rattle.rules.specs.declared.refusals.Refusal.the-variants.{BadTree, WrongPhase}
+use Rattle.rules.specs.declared.refusals.Refusal.the-variants.{BadTree}
 use Rattle.rules.specs.declared.refusals.Verdict.{Verdict}
 use Rattle.rules.specs.declared.refusals.Verdict.the-variants.{Accepted, Refused}
 use Rattle.rules.specs.declared.trace.Record.{Record}
 use Rattle.rules.specs.declared.trace.Record.the-variants.{Node, Model as ModelOf, Start, Bio as BioOf, Tick, Plan, Vrate, Weight as WeightOf}
 use Rattle.rules.specs.declared.trace.Read.{Read}
-use Rattle.rules.specs.declared.trace.Read.the-variants.{Found, End, Refused as Unread}
 use Rattle.rules.specs.declared.replay.Replay.{Replay}
 
 -- ---- a node more changes nothing of those before it
@@ -112,18 +109,7 @@ module _ (s : Replay) (h : Playing s) (sound : SoundTree (s .tree)) where
   record-keeps-nodes (WeightOf n w) = sound
 
   pub step-keeps-nodes : (read : Read) → SoundTree (stepped read s .replay .tree)
-  unfolding stepped readStep
-  step-keeps-nodes read = by-phase (isStopped (s .phase)) read
-    where
-      in-its-phase : (b : Bool) (r : Record) → SoundTree (cond b (recordStep r s) (stopsAt WrongPhase s) .replay .tree)
-      in-its-phase true r = record-keeps-nodes r
-      in-its-phase false r = sound
-
-      by-phase : (b : Bool) (read : Read) → SoundTree (cond b (silent s) (readStep read s) .replay .tree)
-      by-phase true read = sound
-      by-phase false (Found r next) = in-its-phase (inPhase (s .phase) (kindOf r)) r
-      by-phase false End = sound
-      by-phase false (Unread x) = sound
+  step-keeps-nodes = step-keeps (λ (t : Replay). SoundTree (t .tree)) s sound (λ x. sound) record-keeps-nodes
 
   -- ---- a node record that is refused for its node: that is the next number, every node before it is without fault, and the fault
   -- is the first of its own

@@ -138,23 +138,32 @@ record-step-plays Plan s h = state-plays h (s .phase) (s .rates) (planned (s .st
 record-step-plays (Vrate v) s h = set-plays (SetVrate v) s h
 record-step-plays (Weight n w) s h = set-plays (SetWeight n w) s h
 
+-- ---- a step keeps what each record and each stop keep
+module _ (P : Replay → Type 0) (s : Replay) (here : P s) (stop : (x : Refusal) → P (stopsAt x s .replay))
+    (each : (r : Record) → P (recordStep r s .replay)) where
+  read-step-keeps : (read : Read) → P (readStep read s .replay)
+  unfolding readStep
+  read-step-keeps (Found r next) = go (inPhase (s .phase) (kindOf r))
+    where
+      go : (b : Bool) → P (cond b (recordStep r s) (stopsAt WrongPhase s) .replay)
+      go true = each r
+      go false = stop WrongPhase
+  read-step-keeps End = here
+  read-step-keeps (Unread x) = stop x
+
+  pub step-keeps : (read : Read) → P (stepped read s .replay)
+  unfolding stepped
+  step-keeps read = go (isStopped (s .phase))
+    where
+      go : (b : Bool) → P (cond b (silent s) (readStep read s) .replay)
+      go true = here
+      go false = read-step-keeps read
+
 pub read-step-plays : (read : Read) (s : Replay) → Playing s → Playing (readStep read s .replay)
-unfolding readStep
-read-step-plays (Found r next) s h = go (inPhase (s .phase) (kindOf r))
-  where
-    go : (b : Bool) → Playing (cond b (recordStep r s) (stopsAt WrongPhase s) .replay)
-    go true = record-step-plays r s h
-    go false = stop-plays h WrongPhase
-read-step-plays End s h = h
-read-step-plays (Unread x) s h = stop-plays h x
+read-step-plays read s h = read-step-keeps (λ (t : Replay). Playing t) s h (stop-plays h) (λ r. record-step-plays r s h) read
 
 pub stepped-plays : (read : Read) (s : Replay) → Playing s → Playing (stepped read s .replay)
-unfolding stepped
-stepped-plays read s h = go (isStopped (s .phase))
-  where
-    go : (b : Bool) → Playing (cond b (silent s) (readStep read s) .replay)
-    go true = h
-    go false = read-step-plays read s h
+stepped-plays read s h = step-keeps (λ (t : Replay). Playing t) s h (stop-plays h) (λ r. record-step-plays r s h) read
 
 -- ---- ".. otherwise it goes on": a call, refused or not, leaves the replay in its phase
 pub calls-go-on : (r : Record) (s : Replay) → 4 ≤ kindOf r → recordStep r s .replay .phase ≡ s .phase
