@@ -19,6 +19,7 @@ pub mod Queues
 pub mod Plans
 pub mod Rows
 pub mod States
+pub mod Clocks
 pub mod Ticks
 pub mod Starts
 pub mod Submits

@@ -3,7 +3,7 @@
 -- Assumes nothing.
 use mathlib.Core.Bool.{cond}
 use mathlib.Core.List.{List}
-use Prim.Native.Nat.{ℕ, zero, suc, _+_, _*_, _%_}
+use Prim.Native.Nat.{ℕ, zero, suc, _+_, _-_, _*_, _%_}
 use lib.Dec.{eqb}
 use lib.ListN.{length, getD}
 use Rattle.rules.specs.Numbers.{queueRoom, leafMost}
@@ -140,6 +140,13 @@ generated (submit b) c = 0
 generated (tick time lent) c = ifAccepted (firstOf (tickChecks time (length lent) c)) (growth (c .clock) time .0)
 generated plan c = 0
 generated (set x) c = 0
+
+-- the same in hundredths with nothing rounded: elapsed x vrate
+unfoldable pub exact : Call → Controller → ℕ
+exact (submit b) c = 0
+exact (tick time lent) c = ifAccepted (firstOf (tickChecks time (length lent) c)) ((time - c .clock .time) * c .clock .vrate)
+exact plan c = 0
+exact (set x) c = 0
 
 -- ---- what a call charges, and what all leaves have saved, in WHOLEths
 unfoldable pub charged : Call → Controller → ℕ

@@ -2,13 +2,13 @@
 -- Assumes nothing.
 use mathlib.Core.Bool.{cond, not, _&&_}
 use mathlib.Core.List.{List, [], _∷_, _++_}
-use Prim.Native.Nat.{ℕ, zero, suc, _+_, _-_, _*_, min}
+use Prim.Native.Nat.{ℕ, zero, suc, _+_, _-_, _*_, _%_, min}
 use lib.Dec.{ltb}
 use lib.ListN.{length, drop}
 use Rattle.rules.specs.Numbers.{leafMost, idleCap}
 use Rattle.rules.specs.Words.{sumTo, joinTo, table, has}
 use Rattle.rules.specs.Units.{abs, virt, FLOOR, repayable}
-use Rattle.rules.specs.Budget.{rowAt, queueAt, shareAt, withClock, withBooks, withTimes, popped, oldestId, oldestCost, withBudget, withDebt, charged, owes, waits, fits}
+use Rattle.rules.specs.Budget.{rowAt, queueAt, shareAt, withClock, withBooks, withTimes, withRemainder, popped, oldestId, oldestCost, withBudget, withDebt, charged, owes, waits, fits}
 use Rattle.rules.specs.declared.units.Abs.{Abs}
 use Rattle.rules.specs.declared.units.Virt.{Virt}
 use Rattle.rules.specs.declared.budget.Row.{Row}
@@ -16,12 +16,22 @@ use Rattle.rules.specs.declared.budget.Queue.{Queue}
 use Rattle.rules.specs.declared.budget.Clock.{Clock}
 use Rattle.rules.specs.declared.budget.Controller.{Controller}
 
--- ---- "With the new time, virtual time grows by .."
+-- ---- "With the new time, virtual time grows by FLOOR((elapsed x vrate + remainder) / 100), and what is left over is the new
+-- remainder" (request Three)
+-- what there is to share out, in hundredths
+unfoldable pub hundredths : Clock → ℕ → ℕ
+hundredths k time = (time - k .time) * k .vrate + k .remainder
+
 unfoldable pub growth : Clock → ℕ → Virt
-growth k time = virt (FLOOR ((time - k .time) * k .vrate) 100)
+growth k time = virt (FLOOR (hundredths k time) 100)
+
+unfoldable pub leftOver : Clock → ℕ → ℕ
+leftOver k time = hundredths k time % 100
 
 unfoldable pub advanced : ℕ → Clock → Clock
-advanced time k = withTimes time (virt (k .vtime .0 + growth k time .0)) (virt (k .since .0 + growth k time .0)) k
+advanced time k =
+    withRemainder (leftOver k time)
+    (withTimes time (virt (k .vtime .0 + growth k time .0)) (virt (k .since .0 + growth k time .0)) k)
 
 -- ---- one active leaf
 -- "the budget gains that amount"

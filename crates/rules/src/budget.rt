@@ -29,10 +29,12 @@ pub struct Row {
     pub accepted: bool,
 }
 
-// The last accepted time, virtual time, E (virtual time since the last plan) and vrate.
+// The last accepted time, virtual time and the hundredths left over behind it, E (virtual time since the last plan) and
+// vrate.
 pub struct Clock {
     pub time: u64,
     pub vtime: Virt,
+    pub remainder: u8,
     pub since: Virt,
     pub vrate: u16,
 }
@@ -112,6 +114,7 @@ impl Controller {
             clock: Clock {
                 time,
                 vtime: Virt(0),
+                remainder: 0,
                 since: Virt(0),
                 vrate: 100,
             },

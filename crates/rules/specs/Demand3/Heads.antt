@@ -5,7 +5,7 @@ use mathlib.Core.Path.{_≡_, refl, sym, ap, _∙_}
 use mathlib.Core.Bool.{Bool, true, false, cond, _&&_}
 use mathlib.Core.List.{List, _++_}
 use mathlib.Core.Logic.{_⊎_, inl, inr, _≢_}
-use Prim.Native.Nat.{ℕ, suc, _+_, _*_, _≤_, _<_, min}
+use Prim.Native.Nat.{ℕ, suc, _+_, _-_, _*_, _≤_, _<_, min}
 use native.Mathlib.Nat.{zero-add, min-le-left}
 use native.Mathlib.Omega.{arith}
 use lib.Dec.{eqb}
@@ -17,24 +17,26 @@ use Rattle.rules.specs.Words.{sumTo, has, noNode}
 use Rattle.rules.specs.Units.{virt, FLOOR, relative, repayable}
 use Rattle.rules.specs.Tree.{isLeaf}
 use Rattle.rules.specs.Budget.{rowAt, queueAt, shareAt, popped, oldestCost, reshared, rebased, activated, entered, endsDonation, applied, settled, submission, wouldBe}
-use Rattle.rules.specs.Tick.{noTurn, growth, advanced, gained, repayment, repaid as repaying, turn, turnOf, releases, lentAfter, tick as ticking}
-use Rattle.rules.specs.Plan.{usageAll, isDonation, donated, closed, shared, plan as planning}
+use Rattle.rules.specs.Tick.{noTurn, growth, gained, repayment, repaid as repaying, turn, turnOf, releases, lentAfter, tick as ticking}
+use Rattle.rules.specs.Plan.{usageAll, isDonation, donated, restartedClock, closed, shared, plan as planning}
 use Rattle.rules.specs.Refusals.{firstOf, submitChecks, tickChecks, planChecks}
 use Rattle.rules.specs.Entries.{submitted, submittedBy, ticked, tickedBy, lentOf, lentBy, planned, plannedBy, setBy}
 use Rattle.rules.specs.Invariant.{Sound}
-use Rattle.rules.specs.Ledger.{Call, after, costWaiting, costOfFirst, idWaiting, idsOfFirst, waiting, owed, ifTaken, ifIssued, ifWaits, ifOnDebt, costOn, ifAccepted, releasedAt, repaidAt, accepted, issued, released, repaid, forgiven, generated}
+use Rattle.rules.specs.Ledger.{Call, after, costWaiting, costOfFirst, idWaiting, idsOfFirst, waiting, owed, ifTaken, ifIssued, ifWaits, ifOnDebt, costOn, ifAccepted, releasedAt, repaidAt, accepted, issued, released, repaid, forgiven, generated, exact}
 use Rattle.rules.specs.Laws.Bools.{is-false, true-not-false}
 use Rattle.rules.specs.Laws.Trees.{root-no-leaf, leaf-last, last-most}
 use Rattle.rules.specs.Laws.Sums.{length-join, join-within, join-at}
 use Rattle.rules.specs.Laws.Tables.{getD-table}
 use Rattle.rules.specs.Laws.Queues.{popped-cost, popped-id}
 use Rattle.rules.specs.Laws.Rows.{released-moves-up, turn-releases-all}
+use Rattle.rules.specs.Laws.Passes.{tick-passes}
 use Rattle.rules.specs.Laws.States.{share-pos}
+use Rattle.rules.specs.Laws.Clocks.{SameTimes, same-times, Passing, nothing-passes, a-tick-passes}
 use Rattle.rules.specs.Laws.Ticks.{active-turn, active-repays, idle-repays, idle-releases, leaf-tick, tick-row, tick-queue, tick-releases-fit}
 use Rattle.rules.specs.Laws.Plans.{half-of-a-debt-is-forgiven-when-quiet, nothing-is-forgiven-when-busy}
 use Rattle.rules.specs.Laws.Submits.{costIn, cost-here, cost-elsewhere, none-issued as issues-none, submit-waiting, submit-owed}
 use Rattle.rules.specs.Laws.Refused.{refusal-4-exactly-when, submit-refuses-exactly-when, tick-refuses-exactly-when, plan-refuses, a-refused-bio-changes-nothing, a-refused-tick-changes-nothing, a-refused-plan-changes-nothing}
-use Rattle.rules.specs.Laws.Settings.{set-keeps-virtual-time, a-refused-setting-changes-nothing}
+use Rattle.rules.specs.Laws.Settings.{set-keeps-times, a-refused-setting-changes-nothing}
 use Rattle.rules.specs.declared.units.Virt.{Virt}
 use Rattle.rules.specs.declared.cost.Bio.{Bio}
 use Rattle.rules.specs.declared.budget.Row.{Row}
@@ -290,27 +292,35 @@ sharing-keeps-both active donors bases targets c = go (isDonation active donors)
     go false = record { clock = refl; tree = refl }
 
 -- of a plan E starts at 0
-planning-keeps-virtual-time : (c : Controller) (v : Verdict) → plannedBy v c .state .clock .vtime .0 ≡ c .clock .vtime .0
+pub planning-restarts-the-clock : (c : Controller) → plannedBy Accepted c .state .clock ≡ restartedClock (c .clock)
 unfolding plannedBy planning closed
-planning-keeps-virtual-time c Accepted = ap (λ (k : Clock). k .vtime .0) (sharing-keeps-both _ _ _ _ (closed _ _ c) .clock)
-planning-keeps-virtual-time c (Refused x) = refl
+planning-restarts-the-clock c = sharing-keeps-both _ _ _ _ (closed _ _ c) .clock
+
+pub planning-keeps-times : (c : Controller) (v : Verdict) → SameTimes (c .clock) (plannedBy v c .state .clock)
+unfolding plannedBy
+planning-keeps-times c Accepted = rw (planning-restarts-the-clock c) (record { time = refl; vtime = refl; remainder = refl })
+planning-keeps-times c (Refused x) = same-times refl
 
 pub planning-keeps-the-tree : (c : Controller) (v : Verdict) → plannedBy v c .state .tree ≡ c .tree
 unfolding plannedBy planning closed
 planning-keeps-the-tree c Accepted = sharing-keeps-both _ _ _ _ (closed _ _ c) .tree
 planning-keeps-the-tree c (Refused x) = refl
 
-pub generated-is-the-growth-of-virtual-time : (k : Call) (c : Controller) → generated k c + c .clock .vtime .0 ≡ after k c .clock .vtime .0
-unfolding generated submitted ticked tickedBy ticking advanced planned
-generated-is-the-growth-of-virtual-time (Call.submit b) c =
-    omega (arith, ap (λ (k : Clock). k .vtime .0) (submitting-keeps-both b c (firstOf (submitChecks b c)) .clock))
-generated-is-the-growth-of-virtual-time (Call.tick time lent) c = go (firstOf (tickChecks time (length lent) c))
+-- what a call does to the clock: an accepted tick moves it, and nothing else moves time, virtual time or remainder
+pub call-passes : (k : Call) (c : Controller) → Passing (generated k c) (exact k c) (c .clock) (after k c .clock)
+unfolding generated exact submitted ticked tickedBy ticking planned
+call-passes (Call.submit b) c = nothing-passes _ _ (same-times (submitting-keeps-both b c (firstOf (submitChecks b c)) .clock))
+call-passes (Call.tick time lent) c = go (firstOf (tickChecks time (length lent) c)) refl
   where
-    go : (v : Verdict) → ifAccepted v (growth (c .clock) time .0) + c .clock .vtime .0 ≡ tickedBy v time c .state .clock .vtime .0
-    go Accepted = omega arith
-    go (Refused x) = omega arith
-generated-is-the-growth-of-virtual-time Call.plan c = omega (arith, planning-keeps-virtual-time c (firstOf (planChecks c)))
-generated-is-the-growth-of-virtual-time (Call.set x) c = omega (arith, set-keeps-virtual-time x c)
+    go : (v : Verdict) → firstOf (tickChecks time (length lent) c) ≡ v
+        → Passing (ifAccepted v (growth (c .clock) time .0)) (ifAccepted v ((time - c .clock .time) * c .clock .vrate)) (c .clock) (tickedBy v time c .state .clock)
+    go Accepted e = a-tick-passes (c .clock) time (tick-passes time (length lent) c e .forward)
+    go (Refused x) e = nothing-passes _ _ (same-times refl)
+call-passes Call.plan c = nothing-passes _ _ (planning-keeps-times c (firstOf (planChecks c)))
+call-passes (Call.set x) c = nothing-passes _ _ (set-keeps-times x c)
+
+pub generated-is-the-growth-of-virtual-time : (k : Call) (c : Controller) → generated k c + c .clock .vtime .0 ≡ after k c .clock .vtime .0
+generated-is-the-growth-of-virtual-time k c = omega (arith, call-passes k c .vtime)
 
 -- ---- a refused call: nothing in any head, and the state stays; the buffer too, by `a-refused-tick-changes-nothing`
 -- the answer of the call is this refusal

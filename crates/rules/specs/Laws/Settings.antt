@@ -11,6 +11,7 @@ use Rattle.rules.specs.Entries.{vrated, vratedBy, weighted, weightedBy, 
 use Rattle.rules.specs.Ledger.{Call, after, waiting, owed, issued, released, repaid, generated, charged, saved}
 use Rattle.rules.specs.Invariant.{Sound}
 use Rattle.rules.specs.Laws.Sums.{sum-none}
+use Rattle.rules.specs.Laws.Clocks.{SameTimes, same-times}
 use Rattle.rules.specs.Laws.Starts.{vrate-keeps}
 use Rattle.rules.specs.Laws.Weights.{weighted-keeps, weight-saves-nothing, weight-keeps-waiting, weight-keeps-owed}
 use Rattle.rules.specs.Laws.Refused.{a-refused-vrate-changes-nothing, a-refused-weight-changes-nothing}
@@ -45,19 +46,24 @@ sets-alone (Weight n w) {c} sound = go (firstOf (weightChecks n w (c .tree)))
         record { saves = weight-saves-nothing sound n w; waits = weight-keeps-waiting sound n w; owes = weight-keeps-owed sound n w }
     go (Refused y) = record { saves = omega arith; waits = λ k. refl; owes = λ k. refl }
 
--- virtual time stays, in any state
-pub set-keeps-virtual-time : (x : Setting) (c : Controller) → setBy x c .state .clock .vtime .0 ≡ c .clock .vtime .0
-unfolding vrated vratedBy weighted weightedBy reweighted rebased reshared
-set-keeps-virtual-time (Vrate v) c = go (firstOf (vrateChecks v))
+-- a weight leaves the whole clock
+pub weighing-keeps-the-clock : (n w : ℕ) (c : Controller) → setBy (Weight n w) c .state .clock ≡ c .clock
+unfolding weighted weightedBy reweighted rebased reshared
+weighing-keeps-the-clock n w c = go (firstOf (weightChecks n w (c .tree)))
   where
-    go : (t : Verdict) → vratedBy t v c .state .clock .vtime .0 ≡ c .clock .vtime .0
+    go : (t : Verdict) → weightedBy t n w c .state .clock ≡ c .clock
     go Accepted = refl
     go (Refused y) = refl
-set-keeps-virtual-time (Weight n w) c = go (firstOf (weightChecks n w (c .tree)))
+
+-- time, virtual time and its remainder stay, in any state
+pub set-keeps-times : (x : Setting) (c : Controller) → SameTimes (c .clock) (setBy x c .state .clock)
+unfolding vrated vratedBy
+set-keeps-times (Vrate v) c = go (firstOf (vrateChecks v))
   where
-    go : (t : Verdict) → weightedBy t n w c .state .clock .vtime .0 ≡ c .clock .vtime .0
-    go Accepted = refl
-    go (Refused y) = refl
+    go : (t : Verdict) → SameTimes (c .clock) (vratedBy t v c .state .clock)
+    go Accepted = record { time = refl; vtime = refl; remainder = refl }
+    go (Refused y) = record { time = refl; vtime = refl; remainder = refl }
+set-keeps-times (Weight n w) c = same-times (weighing-keeps-the-clock n w c)
 
 pub a-refused-setting-changes-nothing : (x : Setting) (c : Controller) (y : Refusal) → setBy x c .answer ≡ Refused y → setBy x c .state ≡ c
 a-refused-setting-changes-nothing (Vrate v) c y e = a-refused-vrate-changes-nothing v c y e

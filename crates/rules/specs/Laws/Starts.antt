@@ -76,7 +76,13 @@ module _ (t : Tree) (m : Model) (time : ℕ) where
     thick = thick;
     leaves = refl;
     model = model;
-    clock = record { vrate-least = omega arith; vrate-most = omega arith; vtime-most = omega arith; since-most = omega arith };
+    clock = record {
+      vrate-least = omega arith;
+      vrate-most = omega arith;
+      vtime-most = omega arith;
+      remainder-below = omega arith;
+      since-most = omega arith;
+    };
     active-fits = omega arith;
     donors-fit = omega arith;
     active = λ n e. nobody n e;
@@ -193,6 +199,7 @@ with-vrate-keeps {c} sound v e =
       vrate-least = w .0;
       vrate-most = w .1;
       vtime-most = sound .clock .vtime-most;
+      remainder-below = sound .clock .remainder-below;
       since-most = sound .clock .since-most;
     })
     refl

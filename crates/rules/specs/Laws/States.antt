@@ -3,20 +3,18 @@
 -- Assumes nothing.
 use mathlib.Core.Path.{_≡_, refl}
 use mathlib.Core.Bool.{Bool, true, false}
-use Prim.Native.Nat.{ℕ, _+_, _-_, _*_, _^_, _≤_, _<_}
-use native.Mathlib.Nat.{mul-le-mul}
+use Prim.Native.Nat.{ℕ, _+_, _*_, _^_, _≤_, _<_}
 use native.Mathlib.Omega.{arith}
 use lib.ListN.{List·getD-eq-default}
-use Rattle.rules.specs.Numbers.{WHOLE, nodesMost, leafMost, queueRoom, elapsedMost, waitingMost}
+use Rattle.rules.specs.Numbers.{WHOLE, nodesMost, leafMost, queueRoom, waitingMost}
 use Rattle.rules.specs.Words.{sumTo, has}
 use Rattle.rules.specs.Budget.{rowAt, queueAt, shareAt, emptyRow, emptyQueue}
-use Rattle.rules.specs.Tick.{growth, waitingAll}
-use Rattle.rules.specs.Invariant.{Sound, SoundClock}
+use Rattle.rules.specs.Tick.{waitingAll}
+use Rattle.rules.specs.Invariant.{Sound}
 use Rattle.rules.specs.Laws.Bools.{is-false}
 use Rattle.rules.specs.Laws.Sums.{sum-in, sum-bound}
 use Rattle.rules.specs.Laws.Trees.{leaf-pos, leaf-last, last-most}
 use Rattle.rules.specs.Laws.Shares.{base-shares-end, leaves-share-at-most-whole}
-use Rattle.rules.specs.declared.budget.Clock.{Clock}
 use Rattle.rules.specs.declared.budget.Controller.{Controller}
 
 module _ {c : Controller} (sound : Sound c) where
@@ -68,10 +66,3 @@ module _ {c : Controller} (sound : Sound c) where
   pub waiting-small : waitingAll c ≤ waitingMost
   unfolding waitingAll
   waiting-small = sum-bound (λ n. queueAt c n .len) queueRoom leafMost (λ n p l. sound .queue n .len-most)
-
--- ---- "virtual time grows by": at most four seconds a tick
-pub growth-small : {k : Clock} → SoundClock k → (time : ℕ) → time ≤ k .time + elapsedMost → growth k time .0 ≤ 4 * elapsedMost
-unfolding growth
-growth-small {k} sound time near =
-    let l : time - k .time ≤ elapsedMost = omega arith in
-    omega (arith, mul-le-mul l (sound .vrate-most))

@@ -19,6 +19,7 @@ use Rattle.rules.specs.Laws.Sums.{length-join, sum-cong, sum-le, sum-add
 use Rattle.rules.specs.Laws.Tables.{table-length, table-every}
 use Rattle.rules.specs.Laws.Rows.{turn-keeps, turn-row-sound, turn-flow}
 use Rattle.rules.specs.Laws.Passes.{tick-passes}
+use Rattle.rules.specs.Laws.Clocks.{left-over-is-below-100}
 use Rattle.rules.specs.Laws.States.{past-is-idle, row-past, queue-past, shares-at-most-whole, share-most, share-pos}
 use Rattle.rules.specs.declared.units.Virt.{Virt}
 use Rattle.rules.specs.declared.budget.Row.{Row}
@@ -204,6 +205,7 @@ module _ {c : Controller} (sound : Sound c) (time : ℕ) where
     vrate-least = sound .clock .vrate-least;
     vrate-most = sound .clock .vrate-most;
     vtime-most = passed .vtime;
+    remainder-below = left-over-is-below-100 (c .clock) time;
     since-most = passed .since;
   }
 
