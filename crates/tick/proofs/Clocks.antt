@@ -8,7 +8,7 @@ use borrow.Author.Tests.{lt-ltb, le-ltb}
 use Rattle.rules.specs.Numbers.{elapsedMost, vtimeMost, sinceMost}
 use Rattle.rules.specs.Tick.{growth}
 use Rattle.rules.specs.Refusals.{firstOf}
-use Rattle.rules.specs.Laws.States.{growth-small}
+use Rattle.rules.specs.Laws.Clocks.{growth-small}
 use Rattle.rules.specs.declared.units.Virt.{Virt}
 use Rattle.rules.specs.declared.budget.Clock.{Clock}
 use Rattle.rules.specs.declared.refusals.Refusal.the-variants.{TimeBack, TimeFar, ClockFull, PlanDue}
@@ -17,10 +17,13 @@ use Rattle.tick.specs.Clocks.{clockChecks, Near}
 
 -- ---- a time that the clock can grow to
 module _ {time : ℕ} {k : Clock} (near : Near time k) where
-  pub product-fits : (time - k .time) * k .vrate < 2 ^ 64
-  product-fits =
+  pub sum-fits : (time - k .time) * k .vrate + k .remainder < 2 ^ 64
+  sum-fits =
       let l : time - k .time ≤ elapsedMost = omega arith in
-      omega (arith, mul-le-mul l (near .sound .vrate-most))
+      omega (arith, mul-le-mul l (near .sound .vrate-most), near .sound .remainder-below)
+
+  pub product-fits : (time - k .time) * k .vrate < 2 ^ 64
+  product-fits = omega (arith, sum-fits)
 
   module _ {grown : Virt} (e : grown ≡ growth k time) where
     pub grown-small : grown .0 ≤ 4 * elapsedMost

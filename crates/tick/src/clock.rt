@@ -1,7 +1,7 @@
 // The clock alone: by how much virtual time grows, the clock afterwards, and which times it refuses. Nothing else in a
-// tick knows how growth is worked out.
+// tick knows how growth is worked out, nor that anything is left over.
 ghost use mathlib.Core.Path.{_≡_};
-ghost use Rattle.rules.specs.Tick.{growth as growthOf, advanced as advancedOf};
+ghost use Rattle.rules.specs.Tick.{hundredths as hundredthsOf, growth as growthOf, advanced as advancedOf};
 ghost use Rattle.rules.specs.Refusals.{firstOf};
 ghost use Rattle.rules.specs.Invariant.{SoundClock};
 ghost use Rattle.tick.specs.Clocks.{clockChecks, Near};
@@ -23,14 +23,22 @@ fn wide(x: u16) -> u64
     x as u64
 }
 
+// "elapsed x vrate + remainder"
+fn hundredths(clock: Clock, time: u64) -> u64
+    requires { ⌜ Near time clock ⌝ }
+    ensures { λ r. ⌜ r ≡ hundredthsOf clock time ⌝ }
+{
+    let elapsed = time - clock.time;
+    let passed = elapsed * wide(clock.vrate);
+    passed + clock.remainder as u64
+}
+
 // "virtual time grows by .."
 pub fn growth(clock: Clock, time: u64) -> Virt
     requires { ⌜ Near time clock ⌝ }
     ensures { λ r. ⌜ r ≡ growthOf clock time ⌝ }
 {
-    let elapsed = time - clock.time;
-    let grown = elapsed * wide(clock.vrate) / 100;
-    Virt(grown)
+    Virt(hundredths(clock, time) / 100)
 }
 
 // The clock at the new time, by a growth that is known.
@@ -39,10 +47,12 @@ pub fn advanced(time: u64, mut clock: Clock, grown: Virt) -> Clock
     ensures { λ r. ⌜ r ≡ advancedOf time clock ⌝ }
 {
     let more = grown.0;
+    let left = hundredths(clock, time) % 100;
     let vtime = Virt(clock.vtime.0 + more);
     let since = Virt(clock.since.0 + more);
     clock.time = time;
     clock.vtime = vtime;
+    clock.remainder = left as u8;
     clock.since = since;
     clock
 }

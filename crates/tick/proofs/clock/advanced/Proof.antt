@@ -1,20 +1,27 @@
--- `tick::clock::advanced` meets its contract: virtual time and E stay far below 2^64.
+-- `tick::clock::advanced` meets its contract: virtual time and E stay far below 2^64, and what is left over fits in a byte.
 -- Assumes nothing.
+use borrow.Author.Needs.{needs}
 use native.Mathlib.Omega.{arith}
-use Rattle.rules.specs.Tick.{advanced}
+use Rattle.rules.specs.Tick.{leftOver, advanced}
 use Rattle.tick.proofs.Clocks.{vtime-fits, since-fits}
 use Rattle.tick.proofs.clock.advanced.Statement.{statement}
 use Rattle.tick.proofs.clock.advanced.Tie as tie
 
-add-t7 : tie.Need-add-t7
-add-t7 c = record { fits = omega (arith, vtime-fits (c .before .pre .0) (c .before .pre .1)) }
+hundredths-requires : tie.Need-hundredths-requires
+hundredths-requires c κs = search needs
 
-add-t7-2 : tie.Need-add-t7-2
-add-t7-2 c = record { fits = omega (arith, since-fits (c .before .before .pre .0) (c .before .before .pre .1)) }
+add-t8 : tie.Need-add-t8
+add-t8 c = record { fits = omega (arith, vtime-fits (c .before .before .pre .0) (c .before .before .pre .1)) }
+
+add-t8-2 : tie.Need-add-t8-2
+add-t8-2 c = record { fits = omega (arith, since-fits (c .before .before .before .pre .0) (c .before .before .before .pre .1)) }
+
+cast-clock : tie.Need-cast-clock
+cast-clock c = search needs
 
 returns : tie.Need-returns
-unfolding advanced
-returns c = rw (c .before .before .pre .1)
+unfolding leftOver advanced
+returns c = rw (c .before .before .before .pre .1, c .before .before .hundredths .ensures)
 
 pub advanced-spec : {M : Type 1} → statement M
-advanced-spec = tie.close (tie.spec add-t7 add-t7-2 returns)
+advanced-spec = tie.close (tie.spec hundredths-requires add-t8 add-t8-2 cast-clock returns)
