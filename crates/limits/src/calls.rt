@@ -13,7 +13,18 @@ pub(crate) fn start(case: &[u8], tree: Tree, rates: Rates) -> Controller
     let done = controller::start::start(tree, rates, 0);
     let answer = done.answer;
     let state = done.state;
-    say::started(case, answer);
+    say::judged(case, answer);
+    state
+}
+
+pub(crate) fn vrate(case: &[u8], c: Controller, v: u16) -> Controller
+    requires { ⌜ Sound c ⌝ }
+    ensures { λ r. ⌜ Sound r ⌝ }
+{
+    let done = controller::start::vrate(c, v);
+    let answer = done.answer;
+    let state = done.state;
+    say::judged(case, answer);
     state
 }
 

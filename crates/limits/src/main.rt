@@ -21,6 +21,21 @@ fn clock() {
     calls::tick(b"tick of no elapsed time", c, 1, &mut lent);
 }
 
+// 11 by what is left over: half a nanosecond of virtual time and another half are one too much. The refused tick leaves the
+// first, so 49 hundredths more are accepted, and 1 more is not.
+fn remainder() {
+    let c = states::fresh();
+    let mut lent = [7u32; 1];
+    let c = calls::vrate(b"vrate 50", c, 50);
+    let c = calls::tick(b"half a nanosecond", c, 1, &mut lent);
+    let c = states::aged(c, NEARLY + 1);
+    let c = calls::tick(b"tick past 2^60 by two halves", c, 2, &mut lent);
+    let c = calls::vrate(b"vrate 49", c, 49);
+    let c = calls::tick(b"99 hundredths past 2^60", c, 2, &mut lent);
+    let c = calls::vrate(b"vrate 1", c, 1);
+    calls::tick(b"100 hundredths past 2^60", c, 3, &mut lent);
+}
+
 // A read of a page, at sector 0.
 fn read(node: u8, id: u32) -> Bio {
     Bio {
@@ -59,6 +74,7 @@ fn record() {
 
 fn main() {
     clock();
+    remainder();
     places();
     record();
 }

@@ -49,7 +49,7 @@ fn ids(lent: &[u32]) {
     }
 }
 
-pub(crate) fn started(case: &[u8], answer: Verdict) {
+pub(crate) fn judged(case: &[u8], answer: Verdict) {
     opening(case);
     match answer {
         Verdict::Accepted => words(b"accepted"),

@@ -51,8 +51,7 @@ module _ (k : Clock) (way time : ℕ) (from : k .time ≤ way) (upto : way ≤ t
       let one = all-is-shared-out k time in
       let first = all-is-shared-out k way in
       let second = all-is-shared-out later time in
-      let parts = by-way-of (k .vrate) (k .time) way time from upto in
-      (
+      let parts = by-way-of (k .vrate) (k .time) way time from upto in (
         omega (arith, one, first, second, parts, left-over-is-below-100 k time, left-over-is-below-100 later time),
         omega (arith, one, first, second, parts, left-over-is-below-100 k time, left-over-is-below-100 later time),
       )

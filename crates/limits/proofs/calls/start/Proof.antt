@@ -8,11 +8,11 @@ use Rattle.limits.proofs.calls.start.Tie as tie
 start-requires : tie.Need-start-requires
 start-requires c κs = search needs
 
-started-requires : tie.Need-started-requires
-started-requires c κs = search needs
+judged-requires : tie.Need-judged-requires
+judged-requires c κs = search needs
 
 returns : tie.Need-returns
 returns c = rw (c .before .before .start .ensures .0) (start-gives _ _ _)
 
 pub start-spec : {M : Type 1} → statement M
-start-spec = tie.close (tie.spec start-requires started-requires returns)
+start-spec = tie.close (tie.spec start-requires judged-requires returns)
