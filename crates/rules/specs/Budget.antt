@@ -31,7 +31,7 @@ abbrev pub emptyRow : Row
 emptyRow = record { budget = virt 0; debt = abs 0; usage = abs 0; end = 0; begun = false; accepted = false }
 
 abbrev pub freshClock : ℕ → Clock
-freshClock time = record { time = time; vtime = virt 0; remainder = 0; since = virt 0; vrate = vrateFresh }
+freshClock time = record { time = time; vtime = virt 0; since = virt 0; vrate = vrateFresh; remainder = 0 }
 
 -- the set of the tree's leaves is handed in, since it is worked out once
 abbrev pub freshWith : ℕ → Tree → Model → ℕ → Controller
@@ -118,13 +118,13 @@ putLeaf n row queue c = withBooks (set (c .rows) n row) (set (c .queues) n queue
 
 -- ---- the clock with other parts
 abbrev pub withTimes : ℕ → Virt → Virt → Clock → Clock
-withTimes time vtime since k = record { time = time; vtime = vtime; remainder = k .remainder; since = since; vrate = k .vrate }
-
-abbrev pub withRemainder : ℕ → Clock → Clock
-withRemainder remainder k = record { time = k .time; vtime = k .vtime; remainder = remainder; since = k .since; vrate = k .vrate }
+withTimes time vtime since k = record { time = time; vtime = vtime; since = since; vrate = k .vrate; remainder = k .remainder }
 
 abbrev pub withRate : ℕ → Clock → Clock
-withRate vrate k = record { time = k .time; vtime = k .vtime; remainder = k .remainder; since = k .since; vrate = vrate }
+withRate vrate k = record { time = k .time; vtime = k .vtime; since = k .since; vrate = vrate; remainder = k .remainder }
+
+abbrev pub withRemainder : ℕ → Clock → Clock
+withRemainder remainder k = record { time = k .time; vtime = k .vtime; since = k .since; vrate = k .vrate; remainder = remainder }
 
 -- ---- "Each leaf has room ..": a ring, whose places out of use keep what they had
 abbrev pub pushed : ℕ → Abs → Queue → Queue

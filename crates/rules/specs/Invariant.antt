@@ -58,8 +58,8 @@ pub record SoundClock (k : Clock) : Type 0 where
   pub vrate-least : vrateLeast ≤ k .vrate
   pub vrate-most : k .vrate ≤ vrateMost
   pub vtime-most : k .vtime .0 ≤ vtimeMost
-  pub remainder-below : k .remainder < 100
   pub since-most : k .since .0 ≤ sinceMost
+  pub remainder-below : k .remainder < 100
 
 pub record SoundQueue (q : Queue) : Type 0 where
   pub ids-all : length (q .ids) ≡ queueRoom

@@ -29,14 +29,14 @@ pub struct Row {
     pub accepted: bool,
 }
 
-// The last accepted time, virtual time and the hundredths left over behind it, E (virtual time since the last plan) and
-// vrate.
+// The last accepted time, virtual time, E (virtual time since the last plan), vrate, and the hundredths of virtual time
+// that are left over.
 pub struct Clock {
     pub time: u64,
     pub vtime: Virt,
-    pub remainder: u8,
     pub since: Virt,
     pub vrate: u16,
+    pub remainder: u8,
 }
 
 // `leaves`, `active` and `donors` are sets of nodes: bit n is node n. An inactive leaf has share 0.
@@ -114,9 +114,9 @@ impl Controller {
             clock: Clock {
                 time,
                 vtime: Virt(0),
-                remainder: 0,
                 since: Virt(0),
                 vrate: 100,
+                remainder: 0,
             },
             leaves,
             active: 0,

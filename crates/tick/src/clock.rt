@@ -52,8 +52,8 @@ pub fn advanced(time: u64, mut clock: Clock, grown: Virt) -> Clock
     let since = Virt(clock.since.0 + more);
     clock.time = time;
     clock.vtime = vtime;
-    clock.remainder = left as u8;
     clock.since = since;
+    clock.remainder = left as u8;
     clock
 }
 

@@ -201,10 +201,10 @@ queueNumbers q = q .head ∷ q .len ∷ q .ids ++ costNumbers (q .costs)
 abbrev pub leafNumbers : Controller → ℕ → List ℕ
 leafNumbers c n = shareAt c n ∷ rowNumbers (rowAt c n) ++ (queueAt c n .head ∷ queueAt c n .len ∷ [])
 
--- time, virtual time, remainder, E, vrate; leaves, active, donors
+-- time, virtual time, E, vrate, remainder; leaves, active, donors
 abbrev pub topNumbers : Controller → List ℕ
 topNumbers c =
-    c .clock .time ∷ c .clock .vtime .0 ∷ c .clock .remainder ∷ c .clock .since .0 ∷ c .clock .vrate
+    c .clock .time ∷ c .clock .vtime .0 ∷ c .clock .since .0 ∷ c .clock .vrate ∷ c .clock .remainder
     ∷ c .leaves ∷ c .active ∷ c .donors ∷ []
 
 -- of a state with three leaves
@@ -273,13 +273,13 @@ abbrev pub leaf3 : List ℕ
 leaf3 = 0 ∷ 0 ∷ 0 ∷ 19 ∷ 24 ∷ 1 ∷ 0 ∷ 0 ∷ 0 ∷ []
 
 abbrev pub top : ℕ → ℕ → List ℕ
-top active donors = 1000 ∷ 70000 ∷ 37 ∷ 50000 ∷ 200 ∷ 14 ∷ active ∷ donors ∷ []
+top active donors = 1000 ∷ 70000 ∷ 50000 ∷ 200 ∷ 37 ∷ 14 ∷ active ∷ donors ∷ []
 
 pub books : List Seen
 books =
     -- a fresh state
     see (topNumbers (started runTree (ratesM 50000) 1000 .state) ++ leafNumbers (started runTree (ratesM 50000) 1000 .state) 1)
-    (1000 ∷ 0 ∷ 0 ∷ 0 ∷ 100 ∷ 6 ∷ 0 ∷ 0 ∷ replicate 9 0)
+    (1000 ∷ 0 ∷ 0 ∷ 100 ∷ 0 ∷ 6 ∷ 0 ∷ 0 ∷ replicate 9 0)
     ∷ see (queueNumbers (queueAt (started runTree (ratesM 50000) 1000 .state) 2)) (replicate 18 0)
     -- a part of a row is set, and the others stay
     ∷ see (rowNumbers (withBudget (virt 9) (row 1 2 3 4 true false)) ++ rowNumbers (withDebt (abs 9) (row 1 2 3 4 false true)))
@@ -288,7 +288,7 @@ books =
     (1 ∷ 2 ∷ 9 ∷ 4 ∷ 1 ∷ 0 ∷ 1 ∷ 2 ∷ 3 ∷ 4 ∷ 0 ∷ 1 ∷ [])
     ∷ see (rowNumbers (withEnd 9 (row 1 2 3 4 false false))) (1 ∷ 2 ∷ 3 ∷ 9 ∷ 1 ∷ 0 ∷ [])
     -- vrate alone is set
-    ∷ see (bookNumbers (vrated 300 saved6 .state)) (1000 ∷ 70000 ∷ 37 ∷ 50000 ∷ 300 ∷ 14 ∷ 6 ∷ 4 ∷ leaf1 ++ leaf2 ++ leaf3)
+    ∷ see (bookNumbers (vrated 300 saved6 .state)) (1000 ∷ 70000 ∷ 50000 ∷ 300 ∷ 37 ∷ 14 ∷ 6 ∷ 4 ∷ leaf1 ++ leaf2 ++ leaf3)
     -- a taker's bio is issued, 20,000 at its share; waits; goes on debt: the donation stands, and no other leaf is touched
     ∷ see (then (bio 1 0 4096) saved6) (top 6 4 ++ (873741824 ∷ 375421 ∷ 0 ∷ 20007 ∷ 8 ∷ 1 ∷ 1 ∷ 7 ∷ 0 ∷ leaf2 ++ leaf3))
     ∷ see (then (bio 1 0 1048576) saved6) (top 6 4 ++ (873741824 ∷ 400000 ∷ 0 ∷ 7 ∷ 2048 ∷ 1 ∷ 1 ∷ 7 ∷ 1 ∷ leaf2 ++ leaf3))
@@ -318,7 +318,7 @@ books =
     (7 ∷ 4 ∷ 1 ∷ 2 ∷ 7 ∷ 4 ∷ 5 ∷ 6 ∷ 7 ∷ 8 ∷ 20001 ∷ 20002 ∷ 30000 ∷ 20004 ∷ 20005 ∷ 20006 ∷ 20007 ∷ 20008 ∷ [])
     -- a tick of 20,000: two of three fit at the share, oldest first, and what is left is saved
     ∷ see (bookNumbers (ticked 11000 (9 ∷ 9 ∷ 9 ∷ []) waits6 .state))
-    (11000 ∷ 90000 ∷ 37 ∷ 70000 ∷ 200 ∷ 14 ∷ 6 ∷ 4 ∷ 873741824 ∷ 832 ∷ 0 ∷ 40016 ∷ 40 ∷ 1 ∷ 0 ∷ 1 ∷ 1
+    (11000 ∷ 90000 ∷ 70000 ∷ 200 ∷ 37 ∷ 14 ∷ 6 ∷ 4 ∷ 873741824 ∷ 832 ∷ 0 ∷ 40016 ∷ 40 ∷ 1 ∷ 0 ∷ 1 ∷ 1
     ∷ 200000000 ∷ 920000 ∷ 0 ∷ 13 ∷ 16 ∷ 0 ∷ 1 ∷ 3 ∷ 0 ∷ leaf3)
     ∷ see (lentOf 11000 (9 ∷ 9 ∷ 9 ∷ []) waits6) (8 ∷ 1 ∷ 9 ∷ [])
     -- a part is repaid, and nothing is released; all is repaid, and then the waiter is released
@@ -332,11 +332,11 @@ books =
     ∷ see (rowNumbers (capped (row (2 ^ 27 + 1) 1 2 3 true false) emptyQueue)) ((2 ^ 27 + 1) ∷ 1 ∷ 2 ∷ 3 ∷ 1 ∷ 0 ∷ [])
     -- a quiet plan: leaf 1 goes inactive, and leaf 2, alone, holds all: 900,000 x 200,000,000 / 2^30
     ∷ see (bookNumbers (planned saved6 .state))
-    (1000 ∷ 70000 ∷ 37 ∷ 0 ∷ 200 ∷ 14 ∷ 4 ∷ 0 ∷ 0 ∷ 0 ∷ 0 ∷ 0 ∷ 40 ∷ 1 ∷ 0 ∷ 7 ∷ 0
+    (1000 ∷ 70000 ∷ 0 ∷ 200 ∷ 37 ∷ 14 ∷ 4 ∷ 0 ∷ 0 ∷ 0 ∷ 0 ∷ 0 ∷ 40 ∷ 1 ∷ 0 ∷ 7 ∷ 0
     ∷ 1073741824 ∷ 167638 ∷ 0 ∷ 0 ∷ 16 ∷ 0 ∷ 0 ∷ 3 ∷ 0 ∷ 0 ∷ 0 ∷ 0 ∷ 0 ∷ 24 ∷ 1 ∷ 0 ∷ 0 ∷ 0 ∷ [])
     -- leaf 1 owes, so it stays and gives nothing; leaf 2 gives more than before, and its budget stays, with no share between
     ∷ see (bookNumbers (planned small6 .state))
-    (1000 ∷ 70000 ∷ 37 ∷ 0 ∷ 200 ∷ 14 ∷ 6 ∷ 4 ∷ 1073392858 ∷ 325600 ∷ 4 ∷ 0 ∷ 40 ∷ 1 ∷ 0 ∷ 7 ∷ 0
+    (1000 ∷ 70000 ∷ 0 ∷ 200 ∷ 37 ∷ 14 ∷ 6 ∷ 4 ∷ 1073392858 ∷ 325600 ∷ 4 ∷ 0 ∷ 40 ∷ 1 ∷ 0 ∷ 7 ∷ 0
     ∷ 348966 ∷ 900000 ∷ 0 ∷ 0 ∷ 16 ∷ 0 ∷ 0 ∷ 3 ∷ 0 ∷ 0 ∷ 0 ∷ 0 ∷ 0 ∷ 24 ∷ 1 ∷ 0 ∷ 0 ∷ 0 ∷ [])
     -- a leaf that waits stays and gives nothing, though no bio of it was accepted
     ∷ see (leafNumbers (planned waits6 .state) 1) (1073392858 ∷ 24420 ∷ 0 ∷ 0 ∷ 40 ∷ 1 ∷ 0 ∷ 7 ∷ 3 ∷ [])

@@ -126,7 +126,7 @@ aged-is-sound sound vtime l =
       vrate-least = sound .clock .vrate-least;
       vrate-most = sound .clock .vrate-most;
       vtime-most = l;
-      remainder-below = sound .clock .remainder-below;
       since-most = sound .clock .since-most;
+      remainder-below = sound .clock .remainder-below;
     })
     refl

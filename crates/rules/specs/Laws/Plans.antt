@@ -124,8 +124,8 @@ module _ (quiet : Bool) (active : ℕ) (c : Controller) where
       vrate-least = b .clock .vrate-least;
       vrate-most = b .clock .vrate-most;
       vtime-most = b .clock .vtime-most;
-      remainder-below = b .clock .remainder-below;
       since-most = omega arith;
+      remainder-below = b .clock .remainder-below;
     };
     rows-all = table-length (λ n. closedRow quiet (has active n) (rowAt c n));
     queues-all = b .queues-all;

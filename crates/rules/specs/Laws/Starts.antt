@@ -80,8 +80,8 @@ module _ (t : Tree) (m : Model) (time : ℕ) where
       vrate-least = omega arith;
       vrate-most = omega arith;
       vtime-most = omega arith;
-      remainder-below = omega arith;
       since-most = omega arith;
+      remainder-below = omega arith;
     };
     active-fits = omega arith;
     donors-fit = omega arith;
@@ -199,8 +199,8 @@ with-vrate-keeps {c} sound v e =
       vrate-least = w .0;
       vrate-most = w .1;
       vtime-most = sound .clock .vtime-most;
-      remainder-below = sound .clock .remainder-below;
       since-most = sound .clock .since-most;
+      remainder-below = sound .clock .remainder-below;
     })
     refl
 

@@ -205,8 +205,8 @@ module _ {c : Controller} (sound : Sound c) (time : ℕ) where
     vrate-least = sound .clock .vrate-least;
     vrate-most = sound .clock .vrate-most;
     vtime-most = passed .vtime;
-    remainder-below = left-over-is-below-100 (c .clock) time;
     since-most = passed .since;
+    remainder-below = left-over-is-below-100 (c .clock) time;
   }
 
   donor-kept : (n : ℕ) → FreeDonor c n → FreeDonor (tick time c) n
