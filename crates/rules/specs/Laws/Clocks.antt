@@ -27,6 +27,11 @@ module _ (k : Clock) (time : ℕ) where
   unfolding growth leftOver hundredths
   all-is-shared-out = omega arith
 
+  -- E grows by the same amount
+  pub both-grow-alike : (advanced time k .vtime .0 ≡ k .vtime .0 + growth k time .0) × (advanced time k .since .0 ≡ k .since .0 + growth k time .0)
+  unfolding advanced
+  both-grow-alike = (refl, refl)
+
 -- "virtual time grows by": at most four seconds a tick
 pub growth-small : {k : Clock} → SoundClock k → (time : ℕ) → time ≤ k .time + elapsedMost → growth k time .0 ≤ 4 * elapsedMost
 growth-small {k} sound time near =
