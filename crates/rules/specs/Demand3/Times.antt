@@ -12,11 +12,11 @@ use Rattle.rules.specs.Entries.{submitted, ticked, tickedBy, planned, pl
 use Rattle.rules.specs.Refusals.{firstOf, submitChecks, tickChecks, planChecks, startChecks}
 use Rattle.rules.specs.Invariant.{Sound}
 use Rattle.rules.specs.Ledger.{Call, after, generated, exact}
-use Rattle.rules.specs.Demand3.Heads.{submitting-keeps-both, planning-restarts-the-clock, call-passes}
+use Rattle.rules.specs.Demand3.Heads.{submitting-keeps-both, planning-restarts-the-clock, planning-keeps-times, call-passes}
 use Rattle.rules.specs.Demand3.Sentences.{run, sumOf, reached-is-sound, generated-is-virtual-time}
 use Rattle.rules.specs.Laws.Clocks.{inHundredths, by-way-of, none-elapses, same-hundredths}
 use Rattle.rules.specs.Laws.Bools.{true-not-false}
-use Rattle.rules.specs.Laws.Settings.{weighing-keeps-the-clock}
+use Rattle.rules.specs.Laws.Settings.{set-keeps-times, weighing-keeps-the-clock}
 use Rattle.rules.specs.Laws.Starts.{start-gives}
 use Rattle.rules.specs.declared.cost.Rates.{Rates}
 use Rattle.rules.specs.declared.tree.Tree.{Tree}
@@ -81,6 +81,28 @@ stays-steady v (k ∷ ks) c (here, there) e = (e, stays-steady v ks (after k c) 
 
 pub steady-without-a-vrate : (ks : List Call) (c : Controller) → NoVrate ks → Steady (c .clock .vrate) ks c
 steady-without-a-vrate ks c none = stays-steady (c .clock .vrate) ks c none refl
+
+-- the clock's time is that of the last accepted tick
+abbrev pub ifTicked : Verdict → ℕ → ℕ → ℕ
+ifTicked Accepted time before = time
+ifTicked (Refused x) time before = before
+
+abbrev pub timeAfter : Call → Controller → ℕ
+timeAfter (Call.submit b) c = c .clock .time
+timeAfter (Call.tick time lent) c = ifTicked (firstOf (tickChecks time (length lent) c)) time (c .clock .time)
+timeAfter Call.plan c = c .clock .time
+timeAfter (Call.set x) c = c .clock .time
+
+pub the-time-is-the-last-accepted : (k : Call) (c : Controller) → after k c .clock .time ≡ timeAfter k c
+unfolding submitted ticked tickedBy ticking advanced planned
+the-time-is-the-last-accepted (Call.submit b) c = ap (λ (k : Clock). k .time) (submitting-keeps-both b c (firstOf (submitChecks b c)) .clock)
+the-time-is-the-last-accepted (Call.tick time lent) c = go (firstOf (tickChecks time (length lent) c))
+  where
+    go : (v : Verdict) → tickedBy v time c .state .clock .time ≡ ifTicked v time (c .clock .time)
+    go Accepted = refl
+    go (Refused x) = refl
+the-time-is-the-last-accepted Call.plan c = planning-keeps-times c (firstOf (planChecks c)) .time
+the-time-is-the-last-accepted (Call.set x) c = set-keeps-times x c .time
 
 pub time-goes-forward : (ks : List Call) (c : Controller) → c .clock .time ≤ run ks c .clock .time
 time-goes-forward [] c = omega arith

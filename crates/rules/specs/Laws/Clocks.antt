@@ -43,23 +43,26 @@ abbrev pub inHundredths : Clock → ℕ
 inHundredths k = 100 * k .vtime .0 + k .remainder
 
 -- where remainders are below 100, it tells both
+tells-both : (a b r s : ℕ) → r < 100 → s < 100 → 100 * a + r ≡ 100 * b + s → (a ≡ b) × (r ≡ s)
+tells-both a b r s p q e = (omega arith, omega arith)
+
 pub same-hundredths : (k l : Clock) → k .remainder < 100 → l .remainder < 100 → inHundredths k ≡ inHundredths l
     → (k .vtime .0 ≡ l .vtime .0) × (k .remainder ≡ l .remainder)
-same-hundredths k l p q e = (omega arith, omega arith)
+same-hundredths k l p q e = tells-both (k .vtime .0) (l .vtime .0) (k .remainder) (l .remainder) p q e
 
 -- ---- a tick on the way changes nothing: not the growth in all, not what is left over
 module _ (k : Clock) (way time : ℕ) (from : k .time ≤ way) (upto : way ≤ time) where
   both-at-once : (growth k time .0 ≡ growth k way .0 + growth (advanced way k) time .0) × (leftOver k time ≡ leftOver (advanced way k) time)
   unfolding advanced
   both-at-once =
-      let later : Clock = advanced way k in
-      let one = all-is-shared-out k time in
-      let first = all-is-shared-out k way in
-      let second = all-is-shared-out later time in
-      let parts = by-way-of (k .vrate) (k .time) way time from upto in (
-        omega (arith, one, first, second, parts, left-over-is-below-100 k time, left-over-is-below-100 later time),
-        omega (arith, one, first, second, parts, left-over-is-below-100 k time, left-over-is-below-100 later time),
-      )
+      tells-both _ _ _ _ (left-over-is-below-100 k time) (left-over-is-below-100 (advanced way k) time)
+      (omega (
+        arith,
+        all-is-shared-out k time,
+        all-is-shared-out k way,
+        all-is-shared-out (advanced way k) time,
+        by-way-of (k .vrate) (k .time) way time from upto,
+      ))
 
   pub a-tick-on-the-way-changes-nothing : advanced time (advanced way k) ≡ advanced time k
   unfolding advanced
