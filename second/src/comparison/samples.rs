@@ -10,6 +10,7 @@ use crate::generator::style::Style;
 /// `trees` and short ones are the most numerous.
 const TRACES: &[(Style, u64, u64)] = &[
     (Style::Weights, 25, 10_000),
+    (Style::Clock, 120, 200),
     (Style::Long, 25, 10_000),
     (Style::Deep, 8, 12_000),
     (Style::Full, 8, 12_000),
