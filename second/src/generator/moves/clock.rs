@@ -1,8 +1,6 @@
 //! Moves of the clock's remainder: how it comes to be held, what must leave
 //! it, and what it alone decides.
 
-use std::iter;
-
 use crate::engine::clock::{HUNDREDTHS, MAX_ELAPSED, MAX_PERIOD, MAX_VRATE};
 use crate::engine::cost::FORCED;
 use crate::engine::leaf::relative_cost;
@@ -163,9 +161,8 @@ fn by_remainder(g: &mut Generator, growth: u64) -> Option<u64> {
     let first = g.random.below(SLOW_RATES.len() as u64) as usize;
     let (behind, before) = SLOW_RATES.split_at(first);
     let slow = before.iter().chain(behind).copied();
-    let stays = usize::from(!g.random.once_in(3));
-    let tried: Vec<u16> = iter::repeat(present).take(stays).chain(slow).collect();
-    for vrate in tried {
+    let kept = Some(present).filter(|_| !g.random.once_in(3));
+    for vrate in kept.into_iter().chain(slow) {
         let rate = u64::from(vrate);
         let elapsed = ceil(wanted - held, 1, rate);
         let own = elapsed * rate;
