@@ -10,13 +10,13 @@ use crate::generator::style::Style;
 /// `trees` and short ones are the most numerous.
 const TRACES: &[(Style, u64, u64)] = &[
     (Style::Weights, 25, 10_000),
-    (Style::Clock, 120, 200),
     (Style::Long, 25, 10_000),
     (Style::Deep, 8, 12_000),
     (Style::Full, 8, 12_000),
     (Style::Idle, 8, 12_000),
     (Style::Few, 8, 12_000),
     (Style::Edges, 300, 700),
+    (Style::Clock, 120, 200),
     (Style::Valid, 200, 500),
     (Style::Damaged, 500, 120),
     (Style::Noise, 120, 300),
