@@ -1,9 +1,11 @@
-//! The controller: start, submit, tick, plan and vrate. A weight is next door.
+//! The controller: start, submit, tick and plan. The clock, which says how far
+//! a tick goes, and a weight are next door.
 //!
 //! Every call first finds its answer or its refusal without changing
 //! anything, and only then changes the state; a refused call so leaves the
 //! controller and any lent buffer as they were.
 
+use crate::engine::clock::{fresh_remainder, FRESH_VRATE};
 use crate::engine::cost::{is_sequential, Bio, Model, Rates, MAX_COST};
 use crate::engine::leaf::{Leaf, QUEUE_ROOM};
 use crate::engine::numbers::{floor, is_member, members, Absolute, Relative, WHOLE};
@@ -14,11 +16,6 @@ use crate::engine::tree::{Node, Shares, Tree, MAX_NODES, SHARE_FLOOR};
 /// The most bios that can wait over all leaves.
 pub const MAX_WAITING: usize = (MAX_NODES - 1) * QUEUE_ROOM;
 pub const MAX_DEBT: Absolute = Absolute(1 << 40);
-pub const MAX_ELAPSED: u64 = 1_000_000_000;
-pub const MAX_VIRTUAL_TIME: u64 = 1 << 60;
-pub const MAX_PERIOD: u64 = 1 << 33;
-pub const FRESH_VRATE: u16 = 100;
-pub const MAX_VRATE: u16 = 400;
 
 /// What a submitted bio is told when it is not refused.
 #[derive(Clone, Copy, Debug, PartialEq, Eq)]
@@ -41,6 +38,8 @@ pub struct Controller {
     /// The last accepted time.
     pub time: u64,
     pub virtual_time: u64,
+    /// What virtual time is behind, in hundredths of a nanosecond: below 100.
+    pub remainder: u64,
     /// E: virtual time since the last plan, or start.
     pub period: u64,
     pub(super) aside: Aside,
@@ -50,10 +49,16 @@ pub struct Controller {
 /// What no rule keeps, but a mutant does.
 #[derive(Clone, Debug, PartialEq, Eq)]
 pub(super) struct Aside {
-    /// Hundredths of a nanosecond that rounding has lost.
-    rest: u64,
+    /// The time of start.
+    pub(super) start: u64,
+    /// The hundredths of the last tick by itself.
+    pub(super) hundredths: u64,
+    /// A remainder of each leaf, from its activation on.
+    pub(super) rest_of_leaves: [u64; MAX_NODES],
+    /// A remainder of E, from the last plan on.
+    pub(super) rest_of_period: u64,
     /// A vrate that is still to come into force.
-    vrate: Option<u16>,
+    pub(super) vrate: Option<u16>,
     /// The tree as the setup gave it.
     pub(super) tree: Tree,
 }
@@ -77,7 +82,10 @@ impl Controller {
     pub fn start(tree: Tree, model: Model, time: u64, rules: Rules) -> Result<Controller, Refusal> {
         tree.check(rules)?;
         let aside = Aside {
-            rest: 0,
+            start: time,
+            hundredths: 0,
+            rest_of_leaves: [0; MAX_NODES],
+            rest_of_period: 0,
             vrate: None,
             tree: tree.clone(),
         };
@@ -94,6 +102,7 @@ impl Controller {
                 time
             },
             virtual_time: 0,
+            remainder: fresh_remainder(rules),
             period: 0,
             aside,
             rules,
@@ -114,8 +123,10 @@ impl Controller {
             }
         };
         self.note_accepted(number, bio, answer);
+        self.keep_remainder(Mutant::RestLostAtBio);
         if !is_member(self.active, number) {
             self.activate(number);
+            self.keep_remainder(Mutant::RestLostAtActivation);
         }
         let leaf = &mut self.leaves[number];
         match answer {
@@ -172,6 +183,7 @@ impl Controller {
         if inactive && self.rules.changed(Mutant::RefusedActivates) {
             self.activate(number);
         }
+        self.keep_remainder(Mutant::RestLostAtRefusedBio);
     }
 
     fn move_end(&mut self, number: usize, bio: &Bio) {
@@ -288,6 +300,7 @@ impl Controller {
             leaf.budget = Relative(0);
         }
         leaf.share = shares[number];
+        self.aside.rest_of_leaves[number] = 0;
         self.donors = 0;
         if !self.rules.changed(Mutant::ActivationKeepsShares) {
             self.set_shares(&shares, Mutant::BudgetKeptAtActivation);
@@ -339,9 +352,7 @@ impl Controller {
         let growth = match self.growth(time) {
             Ok(growth) => growth,
             Err(refusal) => {
-                if self.rules.changed(Mutant::RefusedTickMovesTime) {
-                    self.time = time;
-                }
+                self.note_refused_tick(time, refusal);
                 return Err(refusal);
             }
         };
@@ -352,81 +363,11 @@ impl Controller {
         if time == self.time && self.rules.changed(Mutant::TickOfZeroSkipped) {
             return Ok(0);
         }
+        let elapsed = time - self.time;
         self.advance(time, growth);
-        Ok(self.take_turns(growth, released))
-    }
-
-    /// How far virtual time grows up to `time`; refusals 9 to 12.
-    fn growth(&self, time: u64) -> Result<u64, Refusal> {
-        if time < self.time {
-            return Err(if self.rules.changed(Mutant::BackIsJump) {
-                Refusal::TimeJump
-            } else {
-                Refusal::TimeBack
-            });
-        }
-        let elapsed = time - self.time;
-        if elapsed
-            > self.rules.limit(
-                Mutant::ElapsedLimitOneLess,
-                Mutant::ElapsedLimitOneMore,
-                MAX_ELAPSED,
-            )
-        {
-            // At any rate, a hundred periods are too long.
-            let growth = self.grown(elapsed.min(100 * MAX_PERIOD));
-            if self.period + growth > MAX_PERIOD && self.rules.changed(Mutant::PeriodBeforeJump) {
-                return Err(Refusal::PeriodLimit);
-            }
-            return Err(Refusal::TimeJump);
-        }
-        let growth = self.grown(elapsed);
-        if self.virtual_time + growth > MAX_VIRTUAL_TIME {
-            return Err(Refusal::VirtualTimeLimit);
-        }
-        let longest = self.rules.limit(
-            Mutant::PeriodLimitOneLess,
-            Mutant::PeriodLimitOneMore,
-            MAX_PERIOD,
-        );
-        if self.period + growth > longest {
-            return Err(Refusal::PeriodLimit);
-        }
-        Ok(growth)
-    }
-
-    /// Virtual time of an elapsed time.
-    fn grown(&self, elapsed: u64) -> u64 {
-        let vrate = u64::from(self.vrate);
-        if self.rules.changed(Mutant::GrowthOfHundreds) {
-            return elapsed / 100 * vrate;
-        }
-        if self.rules.changed(Mutant::RestCarried) {
-            return (elapsed * vrate + self.aside.rest) / 100;
-        }
-        self.rules
-            .floor(Mutant::GrowthRoundedUp, elapsed, vrate, 100)
-    }
-
-    /// The clocks of an accepted tick.
-    fn advance(&mut self, time: u64, growth: u64) {
-        let elapsed = time - self.time;
-        if self.rules.changed(Mutant::RestCarried) {
-            self.aside.rest = (elapsed * u64::from(self.vrate) + self.aside.rest) % 100;
-        }
-        if let Some(vrate) = self.aside.vrate.take() {
-            self.vrate = vrate;
-        }
-        if self.rules.changed(Mutant::VrateOnce) {
-            self.vrate = FRESH_VRATE;
-        }
-        self.time = time;
-        self.virtual_time += growth;
-        self.period += if self.rules.changed(Mutant::PeriodElapsed) {
-            elapsed
-        } else {
-            growth
-        };
+        let count = self.take_turns(growth.whole, released);
+        self.note_accepted_tick(elapsed, count);
+        Ok(count)
     }
 
     /// Each active leaf has its turn, by rising number. The answer is the
@@ -444,7 +385,8 @@ impl Controller {
         } else {
             left.next()
         } {
-            count += self.leaves[number].tick(growth, &mut released[count..], self.rules);
+            let gain = self.gain_of(number, growth);
+            count += self.leaves[number].tick(gain, &mut released[count..], self.rules);
         }
         count
     }
@@ -458,8 +400,13 @@ impl Controller {
 
     /// Plans the shares up to the next plan; refusal 14.
     pub fn plan(&mut self) -> Result<(), Refusal> {
+        if self.remainder > 0 && self.rules.changed(Mutant::PlanOfBegun) {
+            // Nothing may be divided by an E of 0.
+            self.period = self.period.max(1);
+        }
         if self.period == 0 {
             self.restart(Mutant::RefusedPlanUsage, Mutant::RefusedPlanAccepted);
+            self.keep_remainder(Mutant::RestLostAtRefusedPlan);
             return Err(Refusal::PeriodEmpty);
         }
         let was_active = self.active;
@@ -506,6 +453,8 @@ impl Controller {
         if !self.rules.changed(Mutant::PeriodKept) {
             self.period = 0;
         }
+        self.aside.rest_of_period = 0;
+        self.keep_remainder(Mutant::RestLostAtPlan);
     }
 
     /// Neither a refused plan nor a weight starts these anew, but under a
@@ -668,27 +617,6 @@ impl Controller {
             members(self.active).next()
         } else {
             members(others).next()
-        }
-    }
-
-    /// Sets the rate of later ticks; refusal 15.
-    pub fn set_vrate(&mut self, vrate: u16) -> Result<(), Refusal> {
-        let least = u64::from(!self.rules.changed(Mutant::VrateZero));
-        let most = self.rules.limit(
-            Mutant::VrateOneLess,
-            Mutant::VrateOneMore,
-            u64::from(MAX_VRATE),
-        );
-        let good = (least..=most).contains(&u64::from(vrate));
-        if good && self.rules.changed(Mutant::VrateLate) {
-            self.aside.vrate = Some(vrate);
-        } else if good || self.rules.changed(Mutant::RefusedVrateHolds) {
-            self.vrate = vrate;
-        }
-        if good {
-            Ok(())
-        } else {
-            Err(Refusal::VrateRange)
         }
     }
 }

@@ -1,6 +1,7 @@
 //! The rules of document 01, and of what is built of document 02, on numbers and
 //! nodes. Nothing here knows of traces.
 
+pub mod clock;
 pub mod controller;
 pub mod cost;
 pub mod leaf;

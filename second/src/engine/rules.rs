@@ -92,7 +92,7 @@ named_list! {
         // Tick
         GrowthRoundedUp = "virtual time of a tick rounded up",
         GrowthOfHundreds = "elapsed time divided by 100 before it is multiplied",
-        RestCarried = "the part lost by rounding carried on to the next tick",
+        GrowthRoundedNear = "virtual time of a tick rounded to the nearest",
         VrateLate = "a vrate holds only after the next tick",
         VrateOnce = "a vrate holds for one tick",
         TickOfZeroSkipped = "a tick with no elapsed time does nothing",
@@ -113,6 +113,50 @@ named_list! {
         CapBeforeRepayment = "budget of an owing leaf capped before it repays",
         CapBeforeRelease = "the cap comes before the release",
         CapWaiterBeforeRelease = "the cap comes before the release, whatever waits",
+        // The clock's remainder
+        RestNeverKept = "the clock's remainder never kept",
+        RestPaidLate = "the clock's remainder paid out a tick late",
+        RestAsWhole = "the clock's remainder added after the division, as nanoseconds",
+        RestTimesVrate = "the clock's remainder added to the elapsed time",
+        RestTakenOff = "the clock's remainder taken off instead of added",
+        RestOfLastTick = "the clock's remainder is that of the last tick alone",
+        RestOnlyGrows = "the clock's remainder not reduced when it is paid out",
+        RestStaysWhenPaid = "the clock's remainder stays as it was when it is paid out",
+        RestLostWhenPaid = "what is left of the clock's remainder is lost when it is paid out",
+        RestOnlyWithoutGrowth = "the clock's remainder kept only where virtual time does not grow",
+        RestPaidOnlyAtZero = "the clock's remainder paid out only where a tick brings nothing by itself",
+        RestOnlyUpTo100 = "the clock's remainder kept only at vrates up to 100",
+        RestModulo99 = "the clock's remainder taken modulo 99",
+        RestOfElapsed = "the clock's remainder kept in whole nanoseconds of elapsed time",
+        RestInTenths = "the clock's remainder kept in whole tenths",
+        RestStartsAt1 = "the clock's remainder starts at 1",
+        RestStartsAt50 = "the clock's remainder starts at 50",
+        RestStartsAt99 = "the clock's remainder starts at 99",
+        RestFromStart = "the clock's remainder worked out from the time since start",
+        RestOfTime = "the clock's remainder worked out from the time itself",
+        RestOfLeaves = "a remainder of each leaf, from its activation on",
+        RestOfPeriod = "a remainder of E, from the last plan on",
+        GainOfTickAlone = "budgets gain without the clock's remainder",
+        PeriodOfTickAlone = "E grows without the clock's remainder",
+        RestLostAtVrate = "a vrate drops the clock's remainder",
+        RestLostAtRefusedVrate = "a refused vrate drops the clock's remainder",
+        RestRescaled = "a vrate scales the clock's remainder",
+        RestLostAtPlan = "a plan drops the clock's remainder",
+        RestLostAtRefusedPlan = "a refused plan drops the clock's remainder",
+        RestLostAtWeight = "a weight drops the clock's remainder",
+        RestLostAtRefusedWeight = "a refused weight drops the clock's remainder",
+        RestLostAtBio = "a bio drops the clock's remainder",
+        RestLostAtRefusedBio = "a refused bio drops the clock's remainder",
+        RestLostAtActivation = "an activation drops the clock's remainder",
+        RestLostAtTickOfZero = "a tick with no elapsed time drops the clock's remainder",
+        RestLostAtRelease = "a tick that releases drops the clock's remainder",
+        RestLostWithoutLeaf = "a tick without an active leaf drops the clock's remainder",
+        RestLostAtBack = "refusal 9 drops the clock's remainder",
+        RestLostAtJump = "refusal 10 drops the clock's remainder",
+        RestLostAtLimit = "refusal 12 drops the clock's remainder",
+        RestMovedAtBack = "refusal 9 moves the clock's remainder",
+        RestMovedAtJump = "refusal 10 moves the clock's remainder",
+        RestMovedAtLimit = "refusal 12 moves the clock's remainder",
         // Plan
         PeriodElapsed = "E counts elapsed time",
         PeriodKept = "E does not start at 0 after a plan",
@@ -244,7 +288,10 @@ named_list! {
         PeriodBeforeJump = "12 looked for before 10",
         PeriodLimitOneLess = "refusal 12 at E of exactly 2^33",
         PeriodLimitOneMore = "E of 2^33 + 1 accepted",
+        PeriodLimitOfTickAlone = "12 judged without the clock's remainder",
+        PeriodLimitBegun = "refusal 12 at E of 2^33 and a part of a nanosecond",
         RefusedTickMovesTime = "a refused tick sets the time",
+        PlanOfBegun = "a plan accepted at E of 0 and a part of a nanosecond",
         RefusedPlanUsage = "a refused plan starts usages at 0",
         RefusedPlanAccepted = "a refused plan forgets which leaves had a bio accepted",
         VrateZero = "a vrate of 0 accepted",
@@ -294,6 +341,11 @@ impl Rules {
         Rules {
             mutant: Some(mutant),
         }
+    }
+
+    /// The changed rule, if one is.
+    pub fn mutant(self) -> Option<Mutant> {
+        self.mutant
     }
 
     pub fn changed(self, mutant: Mutant) -> bool {

@@ -1,6 +1,7 @@
 //! The controller's last call: a weight that changes after start.
 
-use crate::engine::controller::{Controller, FRESH_VRATE, MAX_WAITING};
+use crate::engine::clock::FRESH_VRATE;
+use crate::engine::controller::{Controller, MAX_WAITING};
 use crate::engine::leaf::Queue;
 use crate::engine::numbers::{is_member, members, Absolute, Relative};
 use crate::engine::refusal::Refusal;
@@ -16,6 +17,7 @@ impl Controller {
             Ok(tree) => tree,
             Err(refusal) => {
                 self.note_refused_weight(node, weight, refusal);
+                self.keep_remainder(Mutant::RestLostAtRefusedWeight);
                 return Err(refusal);
             }
         };
@@ -170,6 +172,7 @@ impl Controller {
         if self.rules.changed(Mutant::WeightTakesVrate) {
             self.vrate = FRESH_VRATE;
         }
+        self.keep_remainder(Mutant::RestLostAtWeight);
         if self.rules.changed(Mutant::WeightTicks) {
             self.take_turns(0, &mut [0; MAX_WAITING]);
         }

@@ -1,9 +1,9 @@
 //! What moves are made of: leaves, bios and ticks chosen for an aim.
 
-use crate::engine::controller::{MAX_ELAPSED, MAX_PERIOD};
+use crate::engine::clock::{HUNDREDTHS, MAX_ELAPSED, MAX_PERIOD};
 use crate::engine::cost::{Bio, FORCED, MAX_BYTES, MAX_COST, MAX_SECTOR, NEAR_SECTORS, WRITE};
 use crate::engine::leaf::{relative_cost, Leaf};
-use crate::engine::numbers::{ceil, floor, is_member, members, Relative};
+use crate::engine::numbers::{ceil, is_member, members, Relative};
 use crate::engine::rules::Rules;
 use crate::generator::state::Generator;
 use crate::trace::record::Record;
@@ -150,15 +150,22 @@ impl Generator {
         self.put(Record::Tick { time });
     }
 
+    /// The shortest time in which virtual time grows by so much or more. The
+    /// remainder held shortens it.
+    pub fn elapsed_for(&self, growth: u64) -> u64 {
+        let controller = self.controller();
+        let missing = (HUNDREDTHS * growth).saturating_sub(controller.remainder);
+        ceil(missing, 1, u64::from(controller.vrate))
+    }
+
     /// Ticks that make virtual time grow by exactly `growth`, if the time up
     /// to the next plan has room for it.
     pub fn grow(&mut self, growth: u64) {
         if self.controller().period + growth > MAX_PERIOD {
             return;
         }
-        let vrate = u64::from(self.controller().vrate);
-        let mut elapsed = ceil(growth, 100, vrate);
-        let exact = floor(elapsed, vrate, 100) == growth;
+        let mut elapsed = self.elapsed_for(growth);
+        let exact = self.controller().grown(elapsed).whole == growth;
         if !exact || elapsed > 10 * MAX_ELAPSED {
             self.put(Record::Vrate { vrate: 100 });
             elapsed = growth;

@@ -5,6 +5,7 @@ use std::io::{self, Write};
 
 use crate::generator::damage::{damage, noise};
 use crate::generator::faults::{bad_setup, bad_tree};
+use crate::generator::moves::clock::CLOCK_MOVES;
 use crate::generator::moves::debt::climb_to_debt_limit;
 use crate::generator::moves::load::{DEEP_MOVES, FEW_MOVES, FULL_MOVES, IDLE_MOVES};
 use crate::generator::moves::usual::{EDGE_MOVES, USUAL_MOVES};
@@ -35,8 +36,9 @@ fn moves_of(style: Style, random: &mut Random) -> &'static [(u64, Move)] {
         Style::Few => return FEW_MOVES,
         Style::Idle => return IDLE_MOVES,
         Style::Full => return FULL_MOVES,
+        Style::Clock if !random.once_in(4) => return CLOCK_MOVES,
         Style::Short | Style::Trees => 5,
-        Style::Long | Style::Valid | Style::Weights => 16,
+        Style::Long | Style::Valid | Style::Weights | Style::Clock => 16,
         Style::Damaged | Style::Noise => 10,
         Style::Edges => 2,
     };

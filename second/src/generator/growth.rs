@@ -3,7 +3,7 @@
 
 use std::io::{self, Write};
 
-use crate::engine::controller::MAX_ELAPSED;
+use crate::engine::clock::MAX_ELAPSED;
 use crate::engine::cost::{Bio, MAX_BPS, MAX_BYTES, MAX_IOPS};
 use crate::engine::tree::MAX_NODES;
 use crate::generator::setup::{even_setup, same_rates, BENCH};

@@ -14,6 +14,7 @@ named_list! {
         Noise = "noise",
         Weights = "weights",
         Trees = "trees",
+        Clock = "clock",
     }
 }
 
@@ -33,6 +34,7 @@ impl Style {
             Style::Deep | Style::Few | Style::Idle | Style::Full => 3_000,
             Style::Long | Style::Weights => 3_000,
             Style::Valid => 500,
+            Style::Clock => 200,
             Style::Damaged => 120,
             Style::Edges => 700,
             Style::Noise => 300,

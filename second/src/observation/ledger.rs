@@ -1,5 +1,6 @@
 //! The sums of demand 3, kept beside a replay and held against it.
 
+use crate::engine::clock::HUNDREDTHS;
 use crate::engine::controller::{Answer, Controller};
 use crate::engine::leaf::Leaf;
 use crate::engine::numbers::{is_member, members};
@@ -21,6 +22,10 @@ struct Account {
 
 struct Ledger {
     accounts: Vec<Account>,
+    /// What the accepted ticks generated, in hundredths of a nanosecond.
+    generated: u128,
+    /// Virtual time at the last plan, or start.
+    planned: u64,
 }
 
 fn waiting_cost(leaf: &Leaf) -> u64 {
@@ -37,6 +42,14 @@ impl Ledger {
                 self.accounts[number].issued += cost;
             }
         }
+        match (record, outcome) {
+            (Record::Tick { .. }, Outcome::Released(_)) => {
+                let elapsed = after.time - before.time;
+                self.generated += u128::from(elapsed) * u128::from(before.vrate);
+            }
+            (Record::Plan, Outcome::Planned) => self.planned = after.virtual_time,
+            _ => {}
+        }
         for number in members(before.active) {
             let (old, new) = (&before.leaves[number], &after.leaves[number]);
             let account = &mut self.accounts[number];
@@ -51,14 +64,34 @@ impl Ledger {
         }
     }
 
+    /// What is wrong with the clocks, if anything is. Virtual time and the
+    /// remainder have no other source than the time of accepted ticks.
+    fn clock_fault(&self, after: &Controller) -> Option<&'static str> {
+        let shown =
+            u128::from(after.virtual_time) * u128::from(HUNDREDTHS) + u128::from(after.remainder);
+        if after.remainder >= HUNDREDTHS {
+            Some("the remainder is a nanosecond or more")
+        } else if shown != self.generated {
+            Some("virtual time and the remainder are not the time that passed")
+        } else if after.virtual_time - self.planned != after.period {
+            Some("E is not the virtual time since the last plan")
+        } else {
+            None
+        }
+    }
+
     /// The first broken promise of demand 3, if any is.
     fn fault(&self, after: &Controller) -> Option<&'static str> {
+        let fault = self.clock_fault(after);
+        if fault.is_some() {
+            return fault;
+        }
         let spent: u64 = self
             .accounts
             .iter()
             .map(|account| account.issued + account.released + account.repaid)
             .sum();
-        if spent > after.virtual_time {
+        if u128::from(spent) > self.generated / u128::from(HUNDREDTHS) {
             return Some("more spent than virtual time");
         }
         for (account, leaf) in self.accounts.iter().zip(&after.leaves) {
@@ -101,6 +134,8 @@ pub fn audit(trace: &[u8], rules: Rules) -> Option<&'static str> {
     let mut replay = Replay::new(rules);
     let mut ledger = Ledger {
         accounts: vec![Account::default(); MAX_NODES],
+        generated: 0,
+        planned: 0,
     };
     while let Ok(Some(record)) = reader.next() {
         let before = replay.phase.clone();

@@ -1,7 +1,10 @@
 //! Which events one record brings about, seen from the states before and
 //! after it. The replay itself is not touched by being observed.
 
-use crate::engine::controller::{Answer, Controller, MAX_DEBT, MAX_ELAPSED, MAX_PERIOD, MAX_VRATE};
+use std::cmp::Ordering;
+
+use crate::engine::clock::{MAX_ELAPSED, MAX_PERIOD, MAX_VRATE, TOO_LONG};
+use crate::engine::controller::{Answer, Controller, MAX_DEBT, MAX_WAITING};
 use crate::engine::cost::{
     is_sequential, Bio, Model, Rates, FORCED, MAX_BPS, MAX_BYTES, MAX_COST, MAX_IOPS, MAX_SECTOR,
     MIN_BPS, NEAR_SECTORS, WRITE,
@@ -193,6 +196,9 @@ fn observe_run(
     after: &Controller,
     sink: &mut Sink,
 ) {
+    if before.remainder > 0 {
+        observe_held(before, record, outcome, sink);
+    }
     match (record, outcome) {
         (Record::Bio(bio), Outcome::Refused(refusal)) => {
             observe_refused_bio(before, bio, refusal, sink)
@@ -211,7 +217,10 @@ fn observe_run(
         (Record::Tick { time }, Outcome::Refused(refusal)) => {
             observe_refused_tick(before, *time, refusal, sink)
         }
-        (Record::Tick { time }, _) => observe_tick(before, *time, after, sink),
+        (Record::Tick { time }, _) => {
+            observe_tick(before, *time, after, sink);
+            observe_clock(before, *time, after, sink);
+        }
         (Record::Plan, Outcome::Refused(_)) => sink.when(true, Event::PeriodEmpty),
         (Record::Plan, _) => {
             observe_plan(before, after, sink);
@@ -479,12 +488,14 @@ fn observe_refused_tick(before: &Controller, time: u64, refusal: Refusal, sink: 
         return;
     }
     let elapsed = time - before.time;
-    let period = before.period + floor(elapsed, u64::from(before.vrate), 100);
+    let period = before.period + before.grown(elapsed.min(TOO_LONG)).whole;
     if refusal == Refusal::TimeJump {
         sink.when(elapsed == MAX_ELAPSED + 1, Event::ElapsedTooLong);
         sink.when(period > MAX_PERIOD, Event::JumpAndPeriodLimit);
     } else {
         sink.when(period == MAX_PERIOD + 1, Event::PeriodTooLong);
+        let alone = before.period + without_remainder(before).grown(elapsed).whole;
+        sink.when(alone <= MAX_PERIOD, Event::PeriodTooLongByRemainder);
     }
 }
 
@@ -493,18 +504,96 @@ fn observe_tick(before: &Controller, time: u64, after: &Controller, sink: &mut S
     sink.when(elapsed == 0, Event::TickOfZero);
     sink.when(elapsed == MAX_ELAPSED, Event::ElapsedMost);
     sink.when(after.period == MAX_PERIOD, Event::PeriodMost);
-    let rounded = elapsed * u64::from(before.vrate) % 100 != 0;
-    sink.when(rounded, Event::GrowthRounded);
+    sink.when(after.remainder > 0, Event::GrowthRounded);
     let growth = after.virtual_time - before.virtual_time;
     let mut releasing = 0;
     for number in members(after.active) {
         let (old, new) = (&before.leaves[number], &after.leaves[number]);
         observe_repayment(old, new, sink);
-        observe_release(old, new, sink);
+        observe_release(old, new, after.remainder, sink);
         observe_cap(old, growth, new, sink);
         releasing += usize::from(new.queue.len() < old.queue.len());
     }
     sink.when(releasing > 1, Event::ReleaseOfSeveralLeaves);
+}
+
+/// The same state, but as if no remainder were held.
+fn without_remainder(held: &Controller) -> Controller {
+    let mut controller = held.clone();
+    controller.remainder = 0;
+    controller
+}
+
+/// Events of a call that finds a remainder held.
+fn observe_held(before: &Controller, record: &Record, outcome: Outcome, sink: &mut Sink) {
+    let event = match (record, outcome) {
+        (Record::Bio(_), Outcome::Refused(_)) => Event::RemainderOverRefusedBio,
+        (Record::Bio(bio), _) => {
+            let asleep = !is_member(before.active, usize::from(bio.node));
+            sink.when(asleep, Event::RemainderOverActivation);
+            Event::RemainderOverBio
+        }
+        (Record::Tick { .. }, Outcome::Refused(Refusal::TimeBack)) => Event::RemainderOverTimeBack,
+        (Record::Tick { .. }, Outcome::Refused(Refusal::TimeJump)) => Event::RemainderOverJump,
+        (Record::Tick { .. }, Outcome::Refused(_)) => Event::RemainderOverPeriodLimit,
+        (Record::Tick { time }, _) if *time == before.time => Event::RemainderOverTickOfZero,
+        (Record::Plan, Outcome::Refused(_)) => Event::RemainderOverRefusedPlan,
+        (Record::Plan, _) => Event::RemainderOverPlan,
+        (Record::Vrate { .. }, Outcome::Refused(_)) => Event::RemainderOverRefusedVrate,
+        (Record::Vrate { vrate }, _) => match vrate.cmp(&before.vrate) {
+            Ordering::Greater => Event::RemainderOverFaster,
+            Ordering::Less => Event::RemainderOverSlower,
+            Ordering::Equal => Event::RemainderOverEqualVrate,
+        },
+        (Record::Weight { .. }, Outcome::Refused(_)) => Event::RemainderOverRefusedWeight,
+        (Record::Weight { .. }, _) => Event::RemainderOverWeight,
+        _ => return,
+    };
+    sink.when(true, event);
+}
+
+/// Events of the remainder at an accepted tick.
+fn observe_clock(before: &Controller, time: u64, after: &Controller, sink: &mut Sink) {
+    let elapsed = time - before.time;
+    let growth = after.virtual_time - before.virtual_time;
+    let left = after.remainder > 0;
+    let fast = before.vrate > 100;
+    sink.when(elapsed > 0 && growth == 0, Event::TickWithoutGrowth);
+    sink.when(after.remainder == 99, Event::RemainderMost);
+    sink.when(left && fast, Event::RemainderOfFastRate);
+    sink.when(left && after.active == 0, Event::RemainderWithoutLeaf);
+    let releases = members(after.active)
+        .any(|number| after.leaves[number].queue.len() < before.leaves[number].queue.len());
+    sink.when(left && releases, Event::RemainderOverRelease);
+    let most = elapsed > 0 && after.period == MAX_PERIOD;
+    sink.when(left && most, Event::PeriodMostAndRemainder);
+    if before.remainder == 0 {
+        return;
+    }
+    let grows = after.remainder > before.remainder;
+    sink.when(grows, Event::RemainderGrows);
+    let mut other = without_remainder(before);
+    let alone = other.grown(elapsed);
+    let whole = elapsed > 0 && alone.remainder == 0;
+    sink.when(whole, Event::RemainderOverWholeTick);
+    if growth == alone.whole {
+        return;
+    }
+    sink.when(true, Event::RemainderPaid);
+    sink.when(!left, Event::RemainderPaidInWhole);
+    sink.when(fast, Event::RemainderPaidAtFastRate);
+    let begun = before.period == 0 && alone.whole == 0;
+    sink.when(begun, Event::PeriodBegunByRemainder);
+    sink.when(most, Event::PeriodMostByRemainder);
+    // What the tick would have done without the remainder.
+    let _ = other.tick(time, &mut [0; MAX_WAITING]);
+    for number in members(after.active) {
+        let (new, without) = (&after.leaves[number], &other.leaves[number]);
+        let released = new.queue.len() < without.queue.len();
+        sink.when(released, Event::ReleaseByRemainder);
+        let cleared = without.owes() && !new.owes();
+        sink.when(cleared, Event::RepaymentByRemainder);
+    }
 }
 
 fn observe_repayment(old: &Leaf, new: &Leaf, sink: &mut Sink) {
@@ -520,7 +609,7 @@ fn observe_repayment(old: &Leaf, new: &Leaf, sink: &mut Sink) {
     sink.when(held, Event::OwingLeafHoldsWaiters);
 }
 
-fn observe_release(old: &Leaf, new: &Leaf, sink: &mut Sink) {
+fn observe_release(old: &Leaf, new: &Leaf, remainder: u64, sink: &mut Sink) {
     let released = old.queue.len() - new.queue.len();
     let spent = released > 0 && new.budget == Relative(0);
     sink.when(spent, Event::ReleaseExact);
@@ -530,6 +619,8 @@ fn observe_release(old: &Leaf, new: &Leaf, sink: &mut Sink) {
         let relative = relative_cost(oldest.cost, new.share, Rules::TRUE);
         let one_short = relative == Relative(new.budget.0 + 1);
         sink.when(one_short, Event::ReleaseOneShort);
+        let hundredth = one_short && remainder == 99;
+        sink.when(hundredth, Event::ReleaseHundredthShort);
         let cheaper = new.queue.iter().any(|bio| new.fits(bio.cost, Rules::TRUE));
         sink.when(cheaper, Event::ReleaseHoldsCheaper);
     }

@@ -1,13 +1,15 @@
 //! The self test: document 01's bench numbers and whole case, numbers from
-//! outside it, what is told of bad trees, round trips, and the refusals no
-//! trace can reach.
+//! outside it, the clock, what is told of bad trees, round trips, and the
+//! refusals no trace can reach.
 
+mod clock;
 mod trees;
 
 use std::fmt::Debug;
 use std::io::{self, Write};
 
-use crate::engine::controller::{Answer, Controller, MAX_ELAPSED, MAX_PERIOD, MAX_VIRTUAL_TIME};
+use crate::engine::clock::{MAX_ELAPSED, MAX_PERIOD, MAX_VIRTUAL_TIME};
+use crate::engine::controller::{Answer, Controller};
 use crate::engine::cost::{Bio, Model, Rates, Side, FORCED, MAX_BYTES, WRITE};
 use crate::engine::leaf::relative_cost;
 use crate::engine::numbers::{ceil, floor, members, Absolute, Relative, WHOLE};
@@ -43,7 +45,7 @@ impl Checks {
 }
 
 /// Fewer checks are no test: a loop over nothing is no success.
-const LEAST: u64 = 4_076;
+const LEAST: u64 = 5_498;
 
 /// A group of checks; a refusal ends it where none belongs.
 type Group = fn(&mut Checks) -> Result<(), Refusal>;
@@ -60,6 +62,11 @@ const GROUPS: &[(&str, Group)] = &[
     ("virtual time limit", virtual_time_limit),
     ("order of refusals at a tick", tick_refusal_order),
     ("release buffer", release_buffer),
+    ("growths", clock::growths),
+    ("split times", clock::split_times),
+    ("calls between ticks", clock::calls_between),
+    ("refused ticks", clock::refused_ticks),
+    ("limits of the clock", clock::limits),
     ("counts of nodes", trees::counts),
     ("one bad node", trees::single_faults),
     ("two bad nodes", trees::faults_of_two),
@@ -739,6 +746,9 @@ fn noticed_faults(checks: &mut Checks) -> io::Result<()> {
     let below = "a non-donor below its base share";
     let costs = "a leaf's costs do not add up";
     let changed = "a refused call changed the state";
+    let time = "virtual time and the remainder are not the time that passed";
+    let nanosecond = "the remainder is a nanosecond or more";
+    let period = "E is not the virtual time since the last plan";
     let faults = [
         (Mutant::BudgetKeptAtRise, Style::Long, spent),
         (Mutant::RemainderLost, Style::Long, sums),
@@ -750,6 +760,15 @@ fn noticed_faults(checks: &mut Checks) -> io::Result<()> {
         (Mutant::WeightTakesWaiters, Style::Weights, costs),
         (Mutant::RefusedWeightEnds, Style::Weights, changed),
         (Mutant::RefusedWeightStays, Style::Weights, changed),
+        (Mutant::GrowthRoundedUp, Style::Clock, time),
+        (Mutant::RestNeverKept, Style::Clock, time),
+        (Mutant::RestOnlyGrows, Style::Clock, nanosecond),
+        (Mutant::RestLostAtVrate, Style::Clock, time),
+        (Mutant::RestLostAtPlan, Style::Clock, time),
+        (Mutant::RestLostAtWeight, Style::Clock, time),
+        (Mutant::RestLostAtRefusedVrate, Style::Clock, changed),
+        (Mutant::RestMovedAtLimit, Style::Clock, changed),
+        (Mutant::PeriodOfTickAlone, Style::Clock, period),
     ];
     for (mutant, style, fault) in faults {
         let mut noticed = false;

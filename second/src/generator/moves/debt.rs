@@ -1,6 +1,7 @@
 //! Moves that aim at debt: its limit, its repayment and its forgiveness.
 
-use crate::engine::controller::{Controller, MAX_ELAPSED, MAX_WAITING};
+use crate::engine::clock::MAX_ELAPSED;
+use crate::engine::controller::{Controller, MAX_WAITING};
 use crate::engine::cost::{FORCED, WRITE};
 use crate::engine::leaf::relative_cost;
 use crate::engine::numbers::Relative;

@@ -1,6 +1,6 @@
 //! Moves that aim at donations: how they come about and how they end.
 
-use crate::engine::controller::MAX_ELAPSED;
+use crate::engine::clock::MAX_ELAPSED;
 use crate::engine::cost::FORCED;
 use crate::engine::leaf::QUEUE_ROOM;
 use crate::engine::numbers::members;

@@ -1,6 +1,6 @@
 //! The moves of a generated trace, usual ones and those at an edge.
 
-use crate::engine::controller::{MAX_ELAPSED, MAX_PERIOD, MAX_VRATE};
+use crate::engine::clock::{MAX_ELAPSED, MAX_PERIOD, MAX_VRATE};
 use crate::engine::cost::{FORCED, MAX_BYTES, MAX_SECTOR, NEAR_SECTORS, WRITE};
 use crate::engine::leaf::{relative_cost, IDLE_CAP, QUEUE_ROOM};
 use crate::engine::numbers::Relative;

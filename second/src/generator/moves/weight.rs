@@ -30,7 +30,7 @@ fn set(g: &mut Generator, node: usize, weight: u16) {
 }
 
 /// Any node but the root, inner nodes too.
-fn any_node(g: &mut Generator) -> usize {
+pub fn any_node(g: &mut Generator) -> usize {
     let last = g.controller().tree.count() as u64 - 1;
     g.random.between(1, last) as usize
 }
@@ -48,7 +48,7 @@ fn weight_for(g: &mut Generator, node: usize) -> u16 {
     }
 }
 
-fn change(g: &mut Generator, node: usize) {
+pub fn change(g: &mut Generator, node: usize) {
     let weight = weight_for(g, node);
     set(g, node, weight);
 }
@@ -184,7 +184,7 @@ fn weight_at_thin(g: &mut Generator) {
 }
 
 /// A weight refused for its node, for itself or for both.
-fn bad_weight(g: &mut Generator) {
+pub fn bad_weight(g: &mut Generator) {
     let count = g.controller().tree.count();
     let absent = g.random.between(count as u64, 255) as usize;
     let any = any_node(g);
