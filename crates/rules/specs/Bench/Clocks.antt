@@ -11,7 +11,8 @@ use Rattle.rules.specs.Entries.{ticked, planned, vrated, weighted}
 use Rattle.rules.specs.Ledger.{Call, generated, exact}
 use Rattle.rules.specs.declared.budget.Clock.{Clock}
 use Rattle.rules.specs.declared.budget.Controller.{Controller}
-use Rattle.rules.specs.Bench.{computed, M, tree5, clockAt}
+use Rattle.rules.specs.declared.replay.Setting.the-variants.{Vrate}
+use Rattle.rules.specs.Bench.{computed, M, bio, tree5, clockAt}
 use Rattle.rules.specs.Bench.Edges.{Seen, see, allSame, leafNumbers, saved6, owes6}
 
 -- a clock at time 0 with this vrate and this remainder
@@ -75,6 +76,8 @@ clocks =
     -- what a tick generates and what it is exactly, in hundredths: the remainder is no part of the latter; refused, nothing
     ∷ see (generated (Call.tick 1 []) (worn 0 0 50) ∷ exact (Call.tick 1 []) (worn 0 0 50) ∷ []) (1 ∷ 50 ∷ [])
     ∷ see (generated (Call.tick 1 []) (worn 0 (2 ^ 33) 50) ∷ exact (Call.tick 1 []) (worn 0 (2 ^ 33) 50) ∷ []) (0 ∷ 0 ∷ [])
+    ∷ see (exact (Call.tick 1007 []) saved6 ∷ exact (Call.submit (bio 1 0 4096)) saved6 ∷ exact Call.plan saved6 ∷ exact (Call.set (Vrate 50)) saved6 ∷ [])
+    (1400 ∷ 0 ∷ 0 ∷ 0 ∷ [])
     -- the budget of each active leaf gains that same growth
     ∷ see (leafNumbers (ticked 1001 [] (vrated 63 saved6 .state) .state) 1) (873741824 ∷ 400001 ∷ 0 ∷ 7 ∷ 40 ∷ 1 ∷ 0 ∷ 7 ∷ 0 ∷ [])
     ∷ see (leafNumbers (ticked 1001 [] (vrated 62 saved6 .state) .state) 1) (873741824 ∷ 400000 ∷ 0 ∷ 7 ∷ 40 ∷ 1 ∷ 0 ∷ 7 ∷ 0 ∷ [])
