@@ -8,12 +8,12 @@ mod calls;
 mod say;
 mod states;
 
-// 2^60 - 1
-const NEARLY: u64 = 1152921504606846975;
+// 2^60
+const MOST: u64 = 1152921504606846976;
 
 // 11: one nanosecond more is accepted and two are not; a refused tick leaves the time where it was.
 fn clock() {
-    let c = states::aged(states::fresh(), NEARLY);
+    let c = states::aged(states::fresh(), MOST - 1);
     let mut lent = [7u32; 1];
     let c = calls::tick(b"tick past 2^60", c, 2, &mut lent);
     let c = calls::tick(b"tick to 2^60", c, 1, &mut lent);
@@ -28,7 +28,7 @@ fn remainder() {
     let mut lent = [7u32; 1];
     let c = calls::vrate(b"vrate 50", c, 50);
     let c = calls::tick(b"half a nanosecond", c, 1, &mut lent);
-    let c = states::aged(c, NEARLY + 1);
+    let c = states::aged(c, MOST);
     let c = calls::tick(b"tick past 2^60 by two halves", c, 2, &mut lent);
     let c = calls::vrate(b"vrate 49", c, 49);
     let c = calls::tick(b"99 hundredths past 2^60", c, 2, &mut lent);

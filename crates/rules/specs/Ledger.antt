@@ -141,7 +141,7 @@ generated (tick time lent) c = ifAccepted (firstOf (tickChecks time (length lent
 generated plan c = 0
 generated (set x) c = 0
 
--- the same in hundredths with nothing rounded: elapsed x vrate
+-- the same in hundredths with nothing rounded: elapsed x vrate (DECISIONS 68)
 unfoldable pub exact : Call → Controller → ℕ
 exact (submit b) c = 0
 exact (tick time lent) c = ifAccepted (firstOf (tickChecks time (length lent) c)) ((time - c .clock .time) * c .clock .vrate)

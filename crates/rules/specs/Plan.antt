@@ -92,6 +92,7 @@ donated active donors bases targets =
 abbrev pub restarted : Row → Row
 restarted r = withAccepted false (withUsage (abs 0) r)
 
+-- .. and what is left over of virtual time stays (DECISIONS 67)
 abbrev pub restartedClock : Clock → Clock
 restartedClock k = withTimes (k .time) (k .vtime) (virt 0) k
 

@@ -16,8 +16,7 @@ use Rattle.rules.specs.declared.budget.Queue.{Queue}
 use Rattle.rules.specs.declared.budget.Clock.{Clock}
 use Rattle.rules.specs.declared.budget.Controller.{Controller}
 
--- ---- "With the new time, virtual time grows by FLOOR((elapsed x vrate + remainder) / 100), and what is left over is the new
--- remainder" (request Three)
+-- ---- "With the new time, virtual time grows by .., and what is left over .." (DECISIONS 67)
 -- what there is to share out, in hundredths
 unfoldable pub hundredths : Clock → ℕ → ℕ
 hundredths k time = (time - k .time) * k .vrate + k .remainder

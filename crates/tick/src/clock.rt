@@ -17,19 +17,13 @@ const VTIME_MOST: u64 = 1152921504606846976;
 
 const SINCE_MOST: u64 = 8589934592;
 
-fn wide(x: u16) -> u64
-    ensures { λ r. ⌜ r ≡ x ⌝ }
-{
-    x as u64
-}
-
 // "elapsed x vrate + remainder"
 fn hundredths(clock: Clock, time: u64) -> u64
     requires { ⌜ Near time clock ⌝ }
     ensures { λ r. ⌜ r ≡ hundredthsOf clock time ⌝ }
 {
     let elapsed = time - clock.time;
-    let passed = elapsed * wide(clock.vrate);
+    let passed = elapsed * clock.vrate as u64;
     passed + clock.remainder as u64
 }
 
@@ -41,15 +35,15 @@ pub fn growth(clock: Clock, time: u64) -> Virt
     Virt(hundredths(clock, time) / 100)
 }
 
-// The clock at the new time, by a growth that is known.
+// The clock at the new time, by a growth that is known; what is left over is worked out here.
 pub fn advanced(time: u64, mut clock: Clock, grown: Virt) -> Clock
     requires { ⌜ Near time clock × (grown ≡ growthOf clock time) ⌝ }
     ensures { λ r. ⌜ r ≡ advancedOf time clock ⌝ }
 {
     let more = grown.0;
-    let left = hundredths(clock, time) % 100;
     let vtime = Virt(clock.vtime.0 + more);
     let since = Virt(clock.since.0 + more);
+    let left = hundredths(clock, time) % 100;
     clock.time = time;
     clock.vtime = vtime;
     clock.since = since;

@@ -337,9 +337,10 @@ pub record CountsNothing (k : Call) (c : Controller) : Type 0 where
   pub none-repaid : (n : ℕ) → repaid k c n ≡ 0
   pub none-forgiven : (n : ℕ) → forgiven k c n ≡ 0
   pub none-generated : generated k c ≡ 0
+  pub none-exact : exact k c ≡ 0
 
 pub a-refused-call-counts-nothing : (k : Call) (c : Controller) (x : Refusal) → Refuses k c x → CountsNothing k c
-unfolding accepted issued released repaid forgiven generated submitted submittedBy
+unfolding accepted issued released repaid forgiven generated exact submitted submittedBy
 a-refused-call-counts-nothing (Call.submit b) c x e =
     let v : firstOf (submitChecks b c) ≡ Refused x = submit-refuses-exactly-when b c x .0 e in
     record {
@@ -350,6 +351,7 @@ a-refused-call-counts-nothing (Call.submit b) c x e =
       none-repaid = λ n. refl;
       none-forgiven = λ n. refl;
       none-generated = refl;
+      none-exact = refl;
     }
 a-refused-call-counts-nothing (Call.tick time lent) c x e =
     let v : firstOf (tickChecks time (length lent) c) ≡ Refused x = tick-refuses-exactly-when time lent c x .0 e in
@@ -361,6 +363,7 @@ a-refused-call-counts-nothing (Call.tick time lent) c x e =
       none-repaid = λ n. rw v;
       none-forgiven = λ n. refl;
       none-generated = rw v;
+      none-exact = rw v;
     }
 a-refused-call-counts-nothing Call.plan c x e =
     let v : firstOf (planChecks c) ≡ Refused x = plan-refuses c x .0 e in
@@ -372,6 +375,7 @@ a-refused-call-counts-nothing Call.plan c x e =
       none-repaid = λ n. refl;
       none-forgiven = λ n. rw v;
       none-generated = refl;
+      none-exact = refl;
     }
 a-refused-call-counts-nothing (Call.set s) c x e =
     record {
@@ -382,4 +386,5 @@ a-refused-call-counts-nothing (Call.set s) c x e =
       none-repaid = λ n. refl;
       none-forgiven = λ n. refl;
       none-generated = refl;
+      none-exact = refl;
     }

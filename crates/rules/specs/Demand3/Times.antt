@@ -16,7 +16,7 @@ use Rattle.rules.specs.Demand3.Heads.{submitting-keeps-both, planning-re
 use Rattle.rules.specs.Demand3.Sentences.{run, sumOf, reached-is-sound, generated-is-virtual-time}
 use Rattle.rules.specs.Laws.Clocks.{inHundredths, by-way-of, none-elapses, same-hundredths}
 use Rattle.rules.specs.Laws.Bools.{true-not-false}
-use Rattle.rules.specs.Laws.Settings.{set-keeps-times, weighing-keeps-the-clock}
+use Rattle.rules.specs.Laws.Settings.{set-keeps-times, setting-a-weight-keeps-the-clock}
 use Rattle.rules.specs.Laws.Starts.{start-gives}
 use Rattle.rules.specs.declared.cost.Rates.{Rates}
 use Rattle.rules.specs.declared.tree.Tree.{Tree}
@@ -42,7 +42,7 @@ generated-is-exact-within-one ks {c} sound =
     (omega (arith, sum, vtime, before, below), omega (arith, sum, vtime, before, below))
 
 -- ---- with vrate unchanged
--- vrate is v at every moment
+-- vrate is v at every moment (DECISIONS 68)
 abbrev pub Steady : ℕ → List Call → Controller → Type 0
 Steady v [] c = c .clock .vrate ≡ v
 Steady v (k ∷ ks) c = (c .clock .vrate ≡ v) × Steady v ks (after k c)
@@ -73,7 +73,7 @@ vrate-stays Call.plan c e = go (firstOf (planChecks c))
     go Accepted = ap (λ (k : Clock). k .vrate) (planning-restarts-the-clock c)
     go (Refused x) = refl
 vrate-stays (Call.set (Vrate v)) c e = absurd (true-not-false refl e)
-vrate-stays (Call.set (Weight n w)) c e = ap (λ (k : Clock). k .vrate) (weighing-keeps-the-clock n w c)
+vrate-stays (Call.set (Weight n w)) c e = ap (λ (k : Clock). k .vrate) (setting-a-weight-keeps-the-clock n w c)
 
 stays-steady : (v : ℕ) (ks : List Call) (c : Controller) → NoVrate ks → c .clock .vrate ≡ v → Steady v ks c
 stays-steady v [] c none e = e

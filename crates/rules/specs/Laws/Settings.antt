@@ -47,9 +47,9 @@ sets-alone (Weight n w) {c} sound = go (firstOf (weightChecks n w (c .tree)))
     go (Refused y) = record { saves = omega arith; waits = λ k. refl; owes = λ k. refl }
 
 -- a weight leaves the whole clock
-pub weighing-keeps-the-clock : (n w : ℕ) (c : Controller) → setBy (Weight n w) c .state .clock ≡ c .clock
+pub setting-a-weight-keeps-the-clock : (n w : ℕ) (c : Controller) → setBy (Weight n w) c .state .clock ≡ c .clock
 unfolding weighted weightedBy reweighted rebased reshared
-weighing-keeps-the-clock n w c = go (firstOf (weightChecks n w (c .tree)))
+setting-a-weight-keeps-the-clock n w c = go (firstOf (weightChecks n w (c .tree)))
   where
     go : (t : Verdict) → weightedBy t n w c .state .clock ≡ c .clock
     go Accepted = refl
@@ -63,7 +63,7 @@ set-keeps-times (Vrate v) c = go (firstOf (vrateChecks v))
     go : (t : Verdict) → SameTimes (c .clock) (vratedBy t v c .state .clock)
     go Accepted = record { time = refl; vtime = refl; remainder = refl }
     go (Refused y) = record { time = refl; vtime = refl; remainder = refl }
-set-keeps-times (Weight n w) c = same-times (weighing-keeps-the-clock n w c)
+set-keeps-times (Weight n w) c = same-times (setting-a-weight-keeps-the-clock n w c)
 
 pub a-refused-setting-changes-nothing : (x : Setting) (c : Controller) (y : Refusal) → setBy x c .answer ≡ Refused y → setBy x c .state ≡ c
 a-refused-setting-changes-nothing (Vrate v) c y e = a-refused-vrate-changes-nothing v c y e
