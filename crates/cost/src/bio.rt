@@ -5,7 +5,7 @@ ghost use mathlib.Core.List.{[], _∷_};
 ghost use Prim.Native.Nat.{_^_, _≤_};
 ghost use Rattle.rules.specs.Numbers.{pageBytes};
 ghost use Rattle.rules.specs.Units.{abs, CEIL};
-ghost use Rattle.rules.specs.Cost.{bioInRange, isWrite, isForced, isNear, isSequential, endOf, costAt, costOf};
+ghost use Rattle.rules.specs.Cost.{isWrite, isForced, isFlush, bytesInRange, bioInRange, isNear, isSequential, endOf, costAt, costOf};
 ghost use Rattle.rules.specs.Refusals.{costingPaper, paperOf, costChecks};
 ghost use Rattle.rules.specs.Entries.{costing};
 ghost use Rattle.rules.specs.Invariant.{SoundPrice, SoundModel};
@@ -34,16 +34,6 @@ const NEAR_MOST: u64 = 32768;
 // "Cost .. at most 2^31".
 const COST_MOST: u64 = 2147483648;
 
-fn in_range(bio: Bio) -> bool
-    ensures { λ r. ⌜ r ≡ bioInRange bio ⌝ }
-{
-    (SECTOR_BYTES <= bio.bytes)
-        & (bio.bytes <= BYTES_MOST)
-        & (bio.bytes % SECTOR_BYTES == 0)
-        & (bio.sector <= SECTOR_MOST)
-        & (bio.flags < FLAGS_END)
-}
-
 fn is_write(bio: Bio) -> bool
     ensures { λ r. ⌜ r ≡ isWrite bio ⌝ }
 {
@@ -54,6 +44,28 @@ pub fn is_forced(bio: Bio) -> bool
     ensures { λ r. ⌜ r ≡ isForced bio ⌝ }
 {
     bio.flags / 2 % 2 == 1
+}
+
+// Request Four: "A bio with the write flag and 0 bytes .."
+pub fn is_flush(bio: Bio) -> bool
+    ensures { λ r. ⌜ r ≡ isFlush bio ⌝ }
+{
+    is_write(bio) & (bio.bytes == 0)
+}
+
+fn bytes_in_range(bytes: u32) -> bool
+    ensures { λ r. ⌜ r ≡ bytesInRange bytes ⌝ }
+{
+    (SECTOR_BYTES <= bytes) & (bytes <= BYTES_MOST) & (bytes % SECTOR_BYTES == 0)
+}
+
+// A flush "is no longer refused for its bytes".
+fn in_range(bio: Bio) -> bool
+    ensures { λ r. ⌜ r ≡ bioInRange bio ⌝ }
+{
+    (is_flush(bio) | bytes_in_range(bio.bytes))
+        & (bio.sector <= SECTOR_MOST)
+        & (bio.flags < FLAGS_END)
 }
 
 // "on either side": by the difference of the two, for which no sector or end is too large.
@@ -117,6 +129,19 @@ fn cost_at(price: Price, sequential: bool, bytes: u32) -> Abs
     Abs(base.0 + price.page.0 * pages(bytes))
 }
 
+// Request Four: a flush "costs one write page, with no base", wherever its leaf's last bio ended.
+fn cost_in_range(model: Model, row: Row, bio: Bio) -> Abs
+    requires { ⌜ SoundModel model × (bio .bytes ≤ 2 ^ 20) ⌝ }
+    ensures { λ r. ⌜ r ≡ costOf model row bio ⌝ }
+{
+    if is_flush(bio) {
+        model.write.page
+    } else {
+        let price = price_for(model, bio);
+        cost_at(price, is_sequential(row, bio), bio.bytes)
+    }
+}
+
 // The cost of a bio of a leaf whose books are `row`, in constant time.
 pub fn cost_of(model: Model, row: Row, bio: Bio) -> Costing
     requires { ⌜ SoundModel model ⌝ }
@@ -124,8 +149,7 @@ pub fn cost_of(model: Model, row: Row, bio: Bio) -> Costing
     ensures number { λ r. ⌜ costingPaper r ≡ paperOf (costChecks model row bio) (costOf model row bio .0 ∷ []) ⌝ }
 {
     if in_range(bio) {
-        let price = price_for(model, bio);
-        let cost = cost_at(price, is_sequential(row, bio), bio.bytes);
+        let cost = cost_in_range(model, row, bio);
         if cost.0 <= COST_MOST {
             Costing::Costs(cost)
         } else {

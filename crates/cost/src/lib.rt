@@ -6,6 +6,7 @@ pub mod pricing;
 
 pub use crate::bio::cost_of;
 pub use crate::bio::end_of;
+pub use crate::bio::is_flush;
 pub use crate::bio::is_forced;
 pub use crate::pricing::price;
 

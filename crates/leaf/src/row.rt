@@ -1,7 +1,8 @@
 // A leaf's own books: whether it owes, whether a cost fits its budget, and what charging, debt and noting a bio leave.
 ghost use mathlib.Core.Path.{_≡_};
+ghost use mathlib.Core.Bool.{true};
 ghost use Prim.Native.Nat.{_<_};
-ghost use Rattle.rules.specs.Budget.{withBudget, withDebt, charged as chargedOf, owes as owesOf, fits as fitsOf};
+ghost use Rattle.rules.specs.Budget.{withBudget, withDebt, withAccepted, charged as chargedOf, owes as owesOf, fits as fitsOf};
 ghost use Rattle.leaf.specs.Fit.{Priced, Payable};
 ghost use Rattle.leaf.specs.Alone.{notedAt};
 use rules::budget::Row;
@@ -50,7 +51,15 @@ pub(crate) fn charged(cost: Abs, share: u64, mut row: Row) -> Row
     row
 }
 
-// An accepted bio moves the leaf's end.
+// An accepted bio counts since the last plan: a flush does no more.
+pub fn counted(mut row: Row) -> Row
+    ensures { λ r. ⌜ r ≡ withAccepted true row ⌝ }
+{
+    row.accepted = true;
+    row
+}
+
+// Any other moves the leaf's end too, and is its first if it had none.
 pub fn noted(end: u64, mut row: Row) -> Row
     ensures { λ r. ⌜ r ≡ notedAt end row ⌝ }
 {

@@ -3,6 +3,7 @@
 pub mod Clocks
 pub mod Edges
 pub mod Faults
+pub mod Flushes
 pub mod Run
 pub mod Weights
 use mathlib.Core.Path.{_≡_, refl}
@@ -13,7 +14,7 @@ use lib.Dec.{eqb}
 use lib.ListN.{getD}
 use Rattle.rules.specs.Words.{sumTo, anyTo, joinTo, tableFrom, has, setTo, noNode}
 use Rattle.rules.specs.Units.{abs, virt, relative}
-use Rattle.rules.specs.Cost.{ratesInRange, pageCost, baseCost, priceOf, priced, isNear, isSequential, costAt, costOf}
+use Rattle.rules.specs.Cost.{ratesInRange, pageCost, baseCost, priceOf, priced, isFlush, isNear, isSequential, costAt, costOf}
 use Rattle.rules.specs.Tree.{parent, weight, last, levelIn, level, countInRange, weightInRange, nodeFault, faultTo, treeFault, newestFault, isLeaf, leavesOf, onWayIn, onWay, isActive, childSum, shareIn, shareOf, baseShare, baseShares, isThin, isBelowRoot}
 use Rattle.rules.specs.Budget.{emptyRow, freshClock, fresh, rowAt, queueAt, shareAt, withClock, withSharing, withBooks, withTimes, withRate, putLeaf, withBudget, rebudget, reshared, rebased, activated, entered, answerTo, rowAfter, queueAfter, answerIn, applied, settled, submission, wouldBe, reweighted}
 use Rattle.rules.specs.Tick.{hundredths, growth, leftOver, advanced, repayment, repaid, releaseIn, released, capped, turn, turnOf, releases, lentAfter, tick, waitingAll}
@@ -37,7 +38,7 @@ use Rattle.rules.specs.declared.trace.Record.the-variants.{Node, Model a
 
 -- every rule that the checker computes below: to unfold this is to unfold them all
 unfoldable pub computed : Unit {0}
-unfolding sumTo anyTo joinTo tableFrom has setTo relative ratesInRange pageCost baseCost priceOf priced isNear isSequential costAt costOf parent weight last levelIn level countInRange weightInRange nodeFault faultTo treeFault isLeaf leavesOf onWayIn onWay isActive childSum shareIn shareOf baseShare baseShares isThin rebudget reshared rebased activated entered answerTo rowAfter queueAfter answerIn applied settled submission hundredths growth leftOver advanced repayment repaid releaseIn released capped turn turnOf releases tick waitingAll usageAll isQuiet forgiveness usedShare targetOf isDonor isTaker isDonation sumOver takenOf isLowest remainder shareGiven donated quietIn activeAfter targetsIn donorsIn closed shared plan wouldBe treeChecks costChecks roomChecks submitChecks tickChecks planChecks treeVerdict costing costingBy submitted submittedBy ticked tickedBy planned plannedBy digits digitsIn line refusalLine answerLine bytesOf numberOf isKind layout fieldsOf recordOf bodyOf recordBytes writing fieldsFrom behind readKind readAt rateChecks vrateChecks lentBy lentOf lentAfter vrated vratedBy tickLines shareLinesTo shareLines planLines verdictLines inPhase newestFault nodeChecks nodeStep modelStep startChecks startedBy started startStep recordStep readStep stepped replayFrom replay isBelowRoot weightChecks weighted weightedBy reweighted
+unfolding sumTo anyTo joinTo tableFrom has setTo relative ratesInRange pageCost baseCost priceOf priced isFlush isNear isSequential costAt costOf parent weight last levelIn level countInRange weightInRange nodeFault faultTo treeFault isLeaf leavesOf onWayIn onWay isActive childSum shareIn shareOf baseShare baseShares isThin rebudget reshared rebased activated entered answerTo rowAfter queueAfter answerIn applied settled submission hundredths growth leftOver advanced repayment repaid releaseIn released capped turn turnOf releases tick waitingAll usageAll isQuiet forgiveness usedShare targetOf isDonor isTaker isDonation sumOver takenOf isLowest remainder shareGiven donated quietIn activeAfter targetsIn donorsIn closed shared plan wouldBe treeChecks costChecks roomChecks submitChecks tickChecks planChecks treeVerdict costing costingBy submitted submittedBy ticked tickedBy planned plannedBy digits digitsIn line refusalLine answerLine bytesOf numberOf isKind layout fieldsOf recordOf bodyOf recordBytes writing fieldsFrom behind readKind readAt rateChecks vrateChecks lentBy lentOf lentAfter vrated vratedBy tickLines shareLinesTo shareLines planLines verdictLines inPhase newestFault nodeChecks nodeStep modelStep startChecks startedBy started startStep recordStep readStep stepped replayFrom replay isBelowRoot weightChecks weighted weightedBy reweighted
 computed = tt
 
 -- ---- an entry of the list: a bench number, what the rules give, what the bench has

@@ -8,7 +8,7 @@ use lib.ListN.{getD, set, replicate}
 use Rattle.rules.specs.Numbers.{queueRoom, nodesMost, vrateFresh}
 use Rattle.rules.specs.Words.{table, has, setOf, noNode}
 use Rattle.rules.specs.Units.{abs, virt, FLOOR, relative}
-use Rattle.rules.specs.Cost.{costOf, endOf, isForced}
+use Rattle.rules.specs.Cost.{costOf, endOf, isFlush, isForced}
 use Rattle.rules.specs.Tree.{leavesOf, baseShares, withWeight}
 use Rattle.rules.specs.declared.units.Abs.{Abs}
 use Rattle.rules.specs.declared.units.Virt.{Virt}
@@ -161,10 +161,10 @@ abbrev pub withAccepted : Bool → Row → Row
 withAccepted a r =
     record { budget = r .budget; debt = r .debt; usage = r .usage; end = r .end; begun = r .begun; accepted = a }
 
--- where a leaf's last bio ended: so it had one
-abbrev pub withEnd : ℕ → Row → Row
-withEnd e r =
-    record { budget = r .budget; debt = r .debt; usage = r .usage; end = e; begun = true; accepted = r .accepted }
+-- where a leaf's last bio ended, and whether it had one
+abbrev pub withEnd : ℕ → Bool → Row → Row
+withEnd e begun r =
+    record { budget = r .budget; debt = r .debt; usage = r .usage; end = e; begun = begun; accepted = r .accepted }
 
 -- the budget falls: only virtual time is taken from it
 abbrev pub spent : Virt → Row → Row
@@ -174,9 +174,17 @@ spent v r = withBudget (virt (r .budget .0 - v .0)) r
 abbrev pub charged : Abs → ℕ → Row → Row
 charged cost share r = withUsage (abs (r .usage .0 + cost .0)) (spent (relative cost share) r)
 
--- an accepted bio moves the leaf's end and is its first, if it had none (DECISIONS 9)
+-- an accepted bio moves the leaf's end and is its first, if it had none (DECISIONS 9); request Four: but a flush "does not move
+-- the leaf's last end nor count as its first bio"
+abbrev pub endAfter : Bio → Row → ℕ
+endAfter b r = cond (isFlush b) (r .end) (endOf b)
+
+abbrev pub begunAfter : Bio → Row → Bool
+begunAfter b r = cond (isFlush b) (r .begun) true
+
+-- each counts as accepted since the last plan
 abbrev pub noted : Bio → Row → Row
-noted b r = withAccepted true (withEnd (endOf b) r)
+noted b r = withAccepted true (withEnd (endAfter b r) (begunAfter b r) r)
 
 abbrev pub owes : Row → Bool
 owes r = ltb 0 (r .debt .0)

@@ -1,6 +1,6 @@
 -- Cost of a bio.
 -- Assumes nothing.
-use mathlib.Core.Bool.{Bool, cond, _&&_}
+use mathlib.Core.Bool.{Bool, cond, _&&_, _||_}
 use Prim.Native.Nat.{ℕ, _+_, _-_, _*_, _/_, _%_}
 use lib.Dec.{eqb, leb, ltb}
 use Rattle.rules.specs.Numbers.{bpsLeast, bpsMost, iopsLeast, iopsMost, second, pageBytes, sectorBytes, bytesMost, sectorMost, nearMost}
@@ -42,6 +42,17 @@ priced r = record {
   write = priceOf (r .wbps) (r .wseqiops) (r .wrandiops);
 }
 
+-- the two flags
+abbrev pub isWrite : Bio → Bool
+isWrite b = eqb (b .flags % 2) 1
+
+abbrev pub isForced : Bio → Bool
+isForced b = eqb (b .flags / 2 % 2) 1
+
+-- request Four: "A bio with the write flag and 0 bytes .."
+unfoldable pub isFlush : Bio → Bool
+isFlush b = isWrite b && eqb (b .bytes) 0
+
 -- "Bytes are .."; "first sector is .."; "flags have .."
 abbrev pub bytesInRange : ℕ → Bool
 bytesInRange bytes = leb sectorBytes bytes && leb bytes bytesMost && eqb (bytes % sectorBytes) 0
@@ -52,15 +63,9 @@ sectorInRange sector = leb sector sectorMost
 abbrev pub flagsInRange : ℕ → Bool
 flagsInRange flags = ltb flags 4
 
+-- request Four: ".. is no longer refused for its bytes"
 abbrev pub bioInRange : Bio → Bool
-bioInRange b = bytesInRange (b .bytes) && sectorInRange (b .sector) && flagsInRange (b .flags)
-
--- the two flags
-abbrev pub isWrite : Bio → Bool
-isWrite b = eqb (b .flags % 2) 1
-
-abbrev pub isForced : Bio → Bool
-isForced b = eqb (b .flags / 2 % 2) 1
+bioInRange b = (isFlush b || bytesInRange (b .bytes)) && sectorInRange (b .sector) && flagsInRange (b .flags)
 
 -- "A bio is sequential if .."; "A leaf's first .."
 unfoldable pub isNear : ℕ → ℕ → Bool
@@ -78,5 +83,9 @@ unfoldable pub costAt : Price → Bool → ℕ → Abs
 costAt price sequential bytes =
     abs (cond sequential (price .sequential .0) (price .random .0) + price .page .0 * CEIL bytes pageBytes)
 
+abbrev pub dataCost : Model → Row → Bio → Abs
+dataCost model row b = costAt (cond (isWrite b) (model .write) (model .read)) (isSequential row b) (b .bytes)
+
+-- request Four: ".. it costs one write page, with no base"; "the cost rule for all else is as before"
 unfoldable pub costOf : Model → Row → Bio → Abs
-costOf model row b = costAt (cond (isWrite b) (model .write) (model .read)) (isSequential row b) (b .bytes)
+costOf model row b = cond (isFlush b) (model .write .page) (dataCost model row b)

@@ -27,6 +27,7 @@ pub mod Answers
 pub mod Verdicts
 pub mod Decisions
 pub mod Refused
+pub mod Flushes
 pub mod Settings
 pub mod Trace
 pub mod Buffers

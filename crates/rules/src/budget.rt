@@ -18,8 +18,8 @@ pub struct Queue {
     pub len: u8,
 }
 
-// The books of one leaf. `end` is where its last accepted bio ended, if `begun` says that there was one; `accepted` says
-// whether a bio was accepted since the last plan; `usage` is what it was charged since then.
+// The books of one leaf. `end` is where its last accepted bio ended that was no flush, if `begun` says that there was one;
+// `accepted` says whether any bio was accepted since the last plan; `usage` is what it was charged since then.
 pub struct Row {
     pub budget: Virt,
     pub debt: Abs,

@@ -9,9 +9,9 @@ use lib.Dec.{leb}
 use lib.Seq.{set-getD}
 use Rattle.rules.specs.Numbers.{nodesMost, queueRoom, costMost, debtMost}
 use Rattle.rules.specs.Words.{has}
-use Rattle.rules.specs.Cost.{endOf, isForced, bioInRange}
+use Rattle.rules.specs.Cost.{isForced, bioInRange}
 use Rattle.rules.specs.Tree.{isLeaf}
-use Rattle.rules.specs.Budget.{emptyRow, emptyQueue, rowAt, queueAt, shareAt, putLeaf, rebased, reshared, entered, rowAfter, queueAfter, endsDonation, answerIn, applied, settled, submission, wouldBe}
+use Rattle.rules.specs.Budget.{emptyRow, emptyQueue, rowAt, queueAt, shareAt, putLeaf, noted, rebased, reshared, entered, rowAfter, queueAfter, endsDonation, answerIn, applied, settled, submission, wouldBe}
 use Rattle.rules.specs.Refusals.{firstOf, costChecks, roomChecks, submitChecks}
 use Rattle.rules.specs.Entries.{costing, costingBy, submittedBy, submitted}
 use Rattle.rules.specs.Invariant.{Sound, SoundModel, SoundTree, Within}
@@ -39,7 +39,7 @@ use Rattle.rules.specs.declared.refusals.Costing.{Costing}
 use Rattle.rules.specs.declared.refusals.Costing.the-variants.{Costs, Refused as Uncosted}
 use Rattle.rules.specs.declared.refusals.Answer.{Answer}
 use Rattle.rules.specs.declared.refusals.Answer.the-variants.{Issued, Waits, OnDebt, Refused as Declined}
-use Rattle.leaf.specs.Alone.{lengthOnly, answerWith, answer-by-count, notedAt}
+use Rattle.leaf.specs.Alone.{lengthOnly, answerWith, answer-by-count}
 use Rattle.leaf.specs.Fit.{CanTake}
 use Rattle.submit.specs.declared.Queueing.{Queueing}
 use Rattle.submit.specs.declared.Queueing.the-variants.{Stays, Joins}
@@ -98,12 +98,12 @@ module _ (waiting : ℕ) {b : Bio} {cost : Abs} {share : ℕ} {row : Row} {force
       fitting = λ i. issued-fits cost share row (lengthOnly waiting) forced (sym a ∙ i);
     }
 
-    pub accepts : verdict ≡ Accepted → {end : ℕ} {taken last : Row} {q : Queueing} → end ≡ endOf b
-        → taken ≡ rowAfter answer cost share row → last ≡ notedAt end taken → q ≡ queueing answer cost
+    pub accepts : verdict ≡ Accepted → {taken last : Row} {q : Queueing}
+        → taken ≡ rowAfter answer cost share row → last ≡ noted b taken → q ≡ queueing answer cost
         → _≡_ {A = Judged} (record { answer = answer; row = last; queue = q }) (onLeaf b cost share row waiting)
     unfolding onLeaf onLeafBy
-    accepts e n t l q =
-        rw (l, q, t, n, answer-is)
+    accepts e t l q =
+        rw (l, q, t, answer-is)
         (ap (λ (x : Verdict). onLeafBy x (answerWith (isForced b) cost share row waiting) b cost share row) (sym e ∙ verdict-is))
 
     pub refuses : (x : Refusal) → verdict ≡ Refused x

@@ -3,9 +3,9 @@
 // unless shares change. `decide` says all of this from what it is shown of one leaf, so these rules stand once in code. The
 // caller that holds the state, which is `submit` here or a run of calls, carries the decision out where the state stands.
 ghost use mathlib.Core.Path.{_≡_};
-ghost use Prim.Native.Nat.{_≤_, _<_};
+ghost use Prim.Native.Nat.{_^_, _≤_, _<_};
 ghost use Rattle.rules.specs.Numbers.{costMost, debtMost, nodesMost, queueRoom};
-ghost use Rattle.rules.specs.Budget.{pushed, endsDonation, wouldBe};
+ghost use Rattle.rules.specs.Budget.{pushed, noted as notedOf, endsDonation, wouldBe};
 ghost use Rattle.rules.specs.Refusals.{firstOf, roomChecks, answerPaper, answerValues, paperOf, submitChecks};
 ghost use Rattle.rules.specs.Entries.{submitted};
 ghost use Rattle.rules.specs.Invariant.{Sound, SoundQueue};
@@ -106,6 +106,19 @@ pub fn joined(id: u32, cost: Abs, queue: Queue) -> Queue
     leaf::submission::queue_after(Answer::Waits, id, cost, queue)
 }
 
+// What an accepted bio leaves in its leaf's row. Request Four: a flush "does not move the leaf's last end nor count as its
+// first bio".
+fn noted(bio: Bio, row: Row) -> Row
+    requires { ⌜ bio .sector ≤ 2 ^ 48 ⌝ }
+    ensures { λ r. ⌜ r ≡ notedOf bio row ⌝ }
+{
+    if cost::is_flush(bio) {
+        leaf::row::counted(row)
+    } else {
+        leaf::row::noted(cost::end_of(bio), row)
+    }
+}
+
 // What a bio comes to on its leaf: the answer, the leaf's row after it, and what becomes of the queue.
 struct Judged {
     answer: Answer,
@@ -123,10 +136,10 @@ fn on_leaf(bio: Bio, cost: Abs, share: u64, row: Row, waiting: u8) -> Judged
     match verdict {
         Verdict::Accepted => {
             let taken = leaf::submission::row_after(answer, cost, share, row);
-            let noted = leaf::row::noted(cost::end_of(bio), taken);
+            let row = noted(bio, taken);
             Judged {
                 answer,
-                row: noted,
+                row,
                 queue: queueing_of(answer, cost),
             }
         }

@@ -230,7 +230,7 @@ state6 row₁ queue₁ =
 unfoldable pub saved6 : Controller
 saved6 = state6 (row 400000 0 7 40 true false) (ring 1 7 0)
 
-waits6 : Controller
+unfoldable pub waits6 : Controller
 waits6 = state6 (row 30000 0 7 40 true false) (ring 1 7 3)
 
 unfoldable pub owes6 : Controller
@@ -286,7 +286,8 @@ books =
     (9 ∷ 2 ∷ 3 ∷ 4 ∷ 1 ∷ 0 ∷ 1 ∷ 9 ∷ 3 ∷ 4 ∷ 0 ∷ 1 ∷ [])
     ∷ see (rowNumbers (withUsage (abs 9) (row 1 2 3 4 true false)) ++ rowNumbers (withAccepted true (row 1 2 3 4 false false)))
     (1 ∷ 2 ∷ 9 ∷ 4 ∷ 1 ∷ 0 ∷ 1 ∷ 2 ∷ 3 ∷ 4 ∷ 0 ∷ 1 ∷ [])
-    ∷ see (rowNumbers (withEnd 9 (row 1 2 3 4 false false))) (1 ∷ 2 ∷ 3 ∷ 9 ∷ 1 ∷ 0 ∷ [])
+    ∷ see (rowNumbers (withEnd 9 true (row 1 2 3 4 false false)) ++ rowNumbers (withEnd 9 false (row 1 2 3 4 true true)))
+    (1 ∷ 2 ∷ 3 ∷ 9 ∷ 1 ∷ 0 ∷ 1 ∷ 2 ∷ 3 ∷ 9 ∷ 0 ∷ 1 ∷ [])
     -- vrate alone is set
     ∷ see (bookNumbers (vrated 300 saved6 .state)) (1000 ∷ 70000 ∷ 50000 ∷ 300 ∷ 37 ∷ 14 ∷ 6 ∷ 4 ∷ leaf1 ++ leaf2 ++ leaf3)
     -- a taker's bio is issued, 20,000 at its share; waits; goes on debt: the donation stands, and no other leaf is touched

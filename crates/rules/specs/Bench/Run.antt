@@ -56,16 +56,16 @@ left [] c = c
 left (m ∷ ms) c = left ms (after (m .call) c)
 
 -- a bio of node, flags, id, sector and bytes; a tick to a time with so many places, each of which has 0
-abbrev ask : ℕ → ℕ → ℕ → ℕ → ℕ → Answer → Move
+abbrev pub ask : ℕ → ℕ → ℕ → ℕ → ℕ → Answer → Move
 ask node flags id sector bytes answer = record {
   call = Call.submit (record { node = node; flags = flags; id = id; sector = sector; bytes = bytes });
   want = toBio answer;
 }
 
-abbrev tickTo : ℕ → ℕ → Count → List ℕ → Move
+abbrev pub tickTo : ℕ → ℕ → Count → List ℕ → Move
 tickTo time places answer lent = record { call = Call.tick time (replicate places 0); want = toTick answer lent }
 
-abbrev plans : Verdict → Move
+abbrev pub plans : Verdict → Move
 plans answer = record { call = Call.plan; want = toOther answer }
 
 abbrev rate : ℕ → Verdict → Move

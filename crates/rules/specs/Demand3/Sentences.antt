@@ -16,6 +16,7 @@ use Rattle.rules.specs.Budget.{shareAt}
 use Rattle.rules.specs.Entries.{started}
 use Rattle.rules.specs.Invariant.{Sound}
 use Rattle.rules.specs.Bench.Run.{Move, left, runTree, runRates, begun, moves, upTo, weights, weightsUpTo, aged}
+use Rattle.rules.specs.Bench.Flushes.{ssdRates, flushing, flushBegun, flushedUpTo}
 use Rattle.rules.specs.Ledger.{Call, after, waiting, owed, accepted, issued, released, repaid, forgiven, generated, charged, saved}
 use Rattle.rules.specs.Demand3.Steps.{call-keeps, call-flow, call-books}
 use Rattle.rules.specs.Demand3.Heads.{generated-is-the-growth-of-virtual-time}
@@ -117,6 +118,11 @@ bench-run-is-sound k = left-is-sound (take k moves) (start-gives runTree runRate
 
 pub bench-weights-are-sound : (k : ℕ) → Sound (weightsUpTo k)
 bench-weights-are-sound k = left-is-sound (take k weights) (bench-run-is-sound 26)
+
+-- and so is each of the run with flushes of every answer (`flush-answers`, `flushes-reach` in Bench/Flushes)
+pub bench-flushes-are-sound : (k : ℕ) → Sound (flushedUpTo k)
+unfolding flushBegun
+bench-flushes-are-sound k = left-is-sound (take k flushing) (start-gives runTree ssdRates 0)
 
 -- so is one at any virtual time up to the limit
 pub aged-is-sound : {c : Controller} → Sound c → (vtime : ℕ) → vtime ≤ vtimeMost → Sound (aged vtime c)

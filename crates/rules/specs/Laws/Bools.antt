@@ -1,7 +1,7 @@
 -- Small laws of true and false, used by all the laws.
 -- Assumes nothing.
 use mathlib.Core.Path.{_≡_, refl, sym}
-use mathlib.Core.Logic.{_⊎_, inl, inr, _↔_}
+use mathlib.Core.Logic.{_⊎_, inl, inr, ⊎-elim, _↔_}
 use mathlib.Core.Bool.{Bool, true, false, _&&_, _||_}
 use Prim.Native.Nat.{ℕ, _≤_}
 use native.Mathlib.Omega.{arith}
@@ -89,6 +89,10 @@ exactly-pair p q = (λ w. (p .0 (w .0), q .0 (w .1)), λ w. (p .1 (w .0), q .1 (
 pub exactly-both : {P Q : Type 0} (a b : Bool) → ((a ≡ true) ↔ P) → ((b ≡ true) ↔ Q) → ((a && b) ≡ true) ↔ (P × Q)
 exactly-both a b p q =
     (λ e. (p .0 (and-left a b e), q .0 (and-right a b e)), λ w. and-both a b (p .1 (w .0)) (q .1 (w .1)))
+
+pub exactly-either : {P Q : Type 0} (a b : Bool) → ((a ≡ true) ↔ P) → ((b ≡ true) ↔ Q) → ((a || b) ≡ true) ↔ (P ⊎ Q)
+exactly-either a b p q =
+    (λ e. ⊎-elim (λ t. inl (p .0 t)) (λ t. inr (q .0 t)) (or-cases a b e), ⊎-elim (λ w. or-left a b (p .1 w)) (λ w. or-right a b (q .1 w)))
 
 pub exactly-not : {P : Type 0} (a : Bool) → ((a ≡ true) ↔ P) → (a ≡ false) ↔ (P → ⊥)
 exactly-not a p = (λ e w. true-not-false (p .1 w) e, λ n. is-false a (λ t. n (p .0 t)))

@@ -1,7 +1,7 @@
 -- Laws of costs: what a priced model keeps, how small and how large a cost can be, and when a price or a cost is refused.
 -- Assumes nothing.
 use mathlib.Core.Path.{_≡_, refl, sym, ap}
-use mathlib.Core.Logic.{_↔_}
+use mathlib.Core.Logic.{_↔_, _⊎_, ⊎-elim}
 use mathlib.Core.Bool.{Bool, true, false, cond, not, _&&_}
 use Prim.Native.Nat.{ℕ, _+_, _*_, _%_, _≤_, _<_}
 use native.Mathlib.Nat.{mul-le-mul, mul-le-mul-left}
@@ -10,11 +10,11 @@ use lib.Dec.{eqb, leb, ltb}
 use borrow.Author.Tests.{ltb-true, ltb-false, lt-ltb, le-ltb, eqb-true, eq-eqb}
 use Rattle.rules.specs.Numbers.{bpsLeast, bpsMost, iopsLeast, iopsMost, second, pageBytes, sectorBytes, bytesMost, sectorMost, nearMost, costMost, endMost}
 use Rattle.rules.specs.Units.{CEIL}
-use Rattle.rules.specs.Cost.{bpsInRange, iopsInRange, ratesInRange, pageCost, baseCost, priceOf, priced, bioInRange, isWrite, isNear, isSequential, endOf, costAt, costOf}
+use Rattle.rules.specs.Cost.{bpsInRange, iopsInRange, ratesInRange, pageCost, baseCost, priceOf, priced, isWrite, isFlush, bytesInRange, bioInRange, isNear, isSequential, endOf, costAt, dataCost, costOf}
 use Rattle.rules.specs.Refusals.{rateChecks, costChecks}
 use Rattle.rules.specs.Entries.{pricingBy, pricing, costingBy, costing}
 use Rattle.rules.specs.Invariant.{SoundPrice, SoundModel}
-use Rattle.rules.specs.Laws.Bools.{never, true-not-false, and-not-left, and-swap, exactly, exactly-pair, exactly-both, exactly-not, at-most, between}
+use Rattle.rules.specs.Laws.Bools.{never, true-not-false, and-not-left, and-swap, exactly, exactly-pair, exactly-both, exactly-either, exactly-not, at-most, between}
 use Rattle.rules.specs.Laws.Units.{ceil-enough, ceil-least}
 use Rattle.rules.specs.declared.units.Abs.{Abs}
 use Rattle.rules.specs.declared.cost.Rates.{Rates}
@@ -37,9 +37,17 @@ pub record RatesInRange (r : Rates) : Type 0 where
   pub writeSequential : (iopsLeast ≤ r .wseqiops) × (r .wseqiops ≤ iopsMost)
   pub writeRandom : (iopsLeast ≤ r .wrandiops) × (r .wrandiops ≤ iopsMost)
 
+-- request Four: "A bio with the write flag and 0 bytes"
+pub record Flush (b : Bio) : Type 0 where
+  pub write : b .flags % 2 ≡ 1
+  pub empty : b .bytes ≡ 0
+
+pub record BytesInRange (bytes : ℕ) : Type 0 where
+  pub fit : (sectorBytes ≤ bytes) × (bytes ≤ bytesMost)
+  pub whole : bytes % sectorBytes ≡ 0
+
 pub record BioInRange (b : Bio) : Type 0 where
-  pub bytesFit : (sectorBytes ≤ b .bytes) × (b .bytes ≤ bytesMost)
-  pub bytesWhole : b .bytes % sectorBytes ≡ 0
+  pub bytesFit : Flush b ⊎ BytesInRange (b .bytes)
   pub sectorFits : b .sector ≤ sectorMost
   pub flagsKnown : b .flags < 4
 
@@ -68,20 +76,33 @@ rates-in-range r =
       λ w. e .1 (((((w .readBytes, w .readSequential), w .readRandom), w .writeBytes), w .writeSequential), w .writeRandom),
     )
 
+pub flush-exactly-when : (b : Bio) → (isFlush b ≡ true) ↔ Flush b
+unfolding isFlush
+flush-exactly-when b =
+    let both = exactly-both (isWrite b) (eqb (b .bytes) 0) (eqb-true _ _, eq-eqb _ _) (eqb-true _ _, eq-eqb _ _) in
+    exactly both (λ w. record { write = w .0; empty = w .1 }, λ w. (w .write, w .empty))
+
+pub bytes-in-range : (bytes : ℕ) → (bytesInRange bytes ≡ true) ↔ BytesInRange bytes
+bytes-in-range bytes =
+    let whole : (eqb (bytes % sectorBytes) 0 ≡ true) ↔ (bytes % sectorBytes ≡ 0) = (eqb-true _ _, eq-eqb _ _) in
+    exactly (exactly-both _ _ (between sectorBytes bytes bytesMost) whole)
+    (λ w. record { fit = w .0; whole = w .1 }, λ w. (w .fit, w .whole))
+
 pub bio-in-range : (b : Bio) → (bioInRange b ≡ true) ↔ BioInRange b
 bio-in-range b =
-    let whole : (eqb (b .bytes % sectorBytes) 0 ≡ true) ↔ (b .bytes % sectorBytes ≡ 0) = (eqb-true _ _, eq-eqb _ _) in
     let known : (ltb (b .flags) 4 ≡ true) ↔ (b .flags < 4) = (ltb-true _ _, lt-ltb _ _) in
-    let a = exactly-both _ _ (between sectorBytes (b .bytes) bytesMost) whole in
+    let a = exactly-either (isFlush b) (bytesInRange (b .bytes)) (flush-exactly-when b) (bytes-in-range (b .bytes)) in
     let c = exactly-both _ _ (exactly-both _ _ a (at-most (b .sector) sectorMost)) known in (
-      λ t. let w = c .0 t in record {
-        bytesFit = w .0 .0 .0;
-        bytesWhole = w .0 .0 .1;
-        sectorFits = w .0 .1;
-        flagsKnown = w .1;
-      },
-      λ w. c .1 (((w .bytesFit, w .bytesWhole), w .sectorFits), w .flagsKnown),
+      λ t. let w = c .0 t in record { bytesFit = w .0 .0; sectorFits = w .0 .1; flagsKnown = w .1 },
+      λ w. c .1 ((w .bytesFit, w .sectorFits), w .flagsKnown),
     )
+
+pub bytes-most : (b : Bio) → BioInRange b → b .bytes ≤ bytesMost
+bytes-most b w = ⊎-elim (λ f. omega (arith, f .empty)) (λ fit. fit .fit .1) (w .bytesFit)
+
+-- request Four: "A read of 0 bytes stays refused", and so does every other number of bytes that was
+pub no-other-bio-has-new-bytes : (b : Bio) → (Flush b → ⊥) → BioInRange b → BytesInRange (b .bytes)
+no-other-bio-has-new-bytes b other w = ⊎-elim (λ f. absurd (other f)) (λ fit. fit) (w .bytesFit)
 
 -- ---- what a priced model keeps
 page-least : (bps : ℕ) → (bpsLeast ≤ bps) × (bps ≤ bpsMost) → 4 ≤ pageCost bps .0
@@ -120,8 +141,8 @@ priced-sound r e =
 abbrev pub pagesMost : ℕ
 pagesMost = 256
 
-pub pages-range : (b : Bio) → bioInRange b ≡ true → (1 ≤ CEIL (b .bytes) pageBytes) × (CEIL (b .bytes) pageBytes ≤ pagesMost)
-pages-range b e = let w = bio-in-range b .0 e .bytesFit in (omega arith, omega arith)
+pub pages-range : (bytes : ℕ) → BytesInRange bytes → (1 ≤ CEIL bytes pageBytes) × (CEIL bytes pageBytes ≤ pagesMost)
+pages-range bytes w = let fit = w .fit in (omega arith, omega arith)
 
 pub base-cost-most : {p : Price} → SoundPrice p → (sequential : Bool) → cond sequential (p .sequential .0) (p .random .0) ≤ second
 base-cost-most s true = s .sequentialMost
@@ -134,18 +155,30 @@ pub price-of-bio-sound : {m : Model} → SoundModel m → (write : Bool) → Sou
 price-of-bio-sound s true = s .writes
 price-of-bio-sound s false = s .reads
 
-module _ {m : Model} (s : SoundModel m) (row : Row) (b : Bio) (e : bioInRange b ≡ true) where
-  pub cost-least : 4 ≤ costOf m row b .0
-  unfolding costOf costAt
-  cost-least =
+module _ {m : Model} (s : SoundModel m) (row : Row) (b : Bio) where
+  data-cost-range : BytesInRange (b .bytes) → (4 ≤ dataCost m row b .0) × (dataCost m row b .0 ≤ second + second * pagesMost)
+  unfolding costAt
+  data-cost-range w =
       let p = price-of-bio-sound s (isWrite b) in
-      omega (arith, mul-le-mul (p .pageLeast) (pages-range b e .0))
+      let pages = pages-range (b .bytes) w in (
+        omega (arith, mul-le-mul (p .pageLeast) (pages .0)),
+        omega (arith, base-cost-most p (isSequential row b), page-costs-most p (CEIL (b .bytes) pageBytes) (pages .1)),
+      )
 
-  pub cost-most : costOf m row b .0 ≤ second + second * pagesMost
-  unfolding costOf costAt
-  cost-most =
-      let p = price-of-bio-sound s (isWrite b) in
-      omega (arith, base-cost-most p (isSequential row b), page-costs-most p (CEIL (b .bytes) pageBytes) (pages-range b e .1))
+  cost-range : bioInRange b ≡ true → (4 ≤ costOf m row b .0) × (costOf m row b .0 ≤ second + second * pagesMost)
+  unfolding costOf
+  cost-range t = go (isFlush b) refl
+    where
+      go : (f : Bool) → isFlush b ≡ f
+          → (4 ≤ cond f (m .write .page) (dataCost m row b) .0) × (cond f (m .write .page) (dataCost m row b) .0 ≤ second + second * pagesMost)
+      go true e = (s .writes .pageLeast, omega (arith, s .writes .pageMost))
+      go false e = data-cost-range (no-other-bio-has-new-bytes b (exactly-not (isFlush b) (flush-exactly-when b) .0 e) (bio-in-range b .0 t))
+
+  pub cost-least : bioInRange b ≡ true → 4 ≤ costOf m row b .0
+  cost-least t = cost-range t .0
+
+  pub cost-most : bioInRange b ≡ true → costOf m row b .0 ≤ second + second * pagesMost
+  cost-most t = cost-range t .1
 
 -- ---- where a bio lies
 pub near-on-either-side : (a b : ℕ) → isNear a b ≡ isNear b a
@@ -157,7 +190,7 @@ unfolding isSequential
 first-bio-is-random row b e = and-not-left (row .begun) (isNear (b .sector) (row .end)) e
 
 pub end-most : (b : Bio) → bioInRange b ≡ true → endOf b ≤ endMost
-end-most b e = let w = bio-in-range b .0 e in omega arith
+end-most b e = let w = bio-in-range b .0 e in omega (arith, w .sectorFits, bytes-most b w)
 
 -- ---- refusal 3 exactly when a rate is out of range
 pricing-by : (t : Bool) (r : Rates) → (pricingBy (cond (not t) (Refused BadRate) Accepted) r ≡ Unpriced BadRate) ↔ (t ≡ false)

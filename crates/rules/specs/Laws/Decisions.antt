@@ -145,7 +145,7 @@ issued-is-accepted b c = go (firstOf (submitChecks b c))
     go (Refused x) i = never (cc)
 
 module _ {c : Controller} (s : Sound c) (b : Bio) where
-  -- "the budget falls by it": every issued bio is charged at its leaf's share, and nothing else changes but the leaf's end
+  -- "the budget falls by it": every issued bio is charged at its leaf's share, and nothing else changes but what is noted of it
   pub an-issued-bio-is-charged : submitted b c .answer ≡ Issued
       → submitted b c .state
       ≡ putLeaf (b .node) (noted b (charged (costIn c b) (shareAt c (b .node)) (rowAt c (b .node)))) (queueAt c (b .node)) c

@@ -13,7 +13,7 @@ use borrow.Author.Tests.{leb-true, leb-false, ltb-true, ltb-false, lt-ltb, le-lt
 use Rattle.rules.specs.Numbers.{WHOLE, costMost, debtMost, idleCap, endMost}
 use Rattle.rules.specs.Words.{tableFrom}
 use Rattle.rules.specs.Units.{abs, virt, relative, repayable}
-use Rattle.rules.specs.Cost.{endOf}
+use Rattle.rules.specs.Cost.{endOf, isFlush}
 use Rattle.rules.specs.Budget.{popped, oldestId, oldestCost, withBudget, withDebt, charged, noted, owes, waits, fits}
 use Rattle.rules.specs.Tick.{Release, noRelease, Turn, gained, repayment, repaid, andFirst, releaseIn, released, capped, turn}
 use Rattle.rules.specs.Invariant.{worthMost, SoundQueue, SoundRow}
@@ -84,7 +84,11 @@ pub owing-keeps : (cost : Abs) (r : Row) → r .debt .0 + cost .0 ≤ debtMost �
 owing-keeps cost r l sound = record { debt-most = l; end-most = sound .end-most }
 
 pub noted-keeps : (b : Bio) (r : Row) → endOf b ≤ endMost → SoundRow r → SoundRow (noted b r)
-noted-keeps b r l sound = record { debt-most = sound .debt-most; end-most = l }
+noted-keeps b r l sound = record { debt-most = sound .debt-most; end-most = go (isFlush b) }
+  where
+    go : (f : Bool) → cond f (r .end) (endOf b) ≤ endMost
+    go true = sound .end-most
+    go false = l
 
 -- ---- a repayment
 pub repayment-most : (share : ℕ) (r : Row) → repayment share r .0 ≤ r .debt .0

@@ -14,7 +14,7 @@ use lib.Seq.{getD-set-same, getD-set-other}
 use borrow.Author.Tests.{leb-false, ltb-false, eq-eqb, ne-eqb, not-false}
 use Rattle.rules.specs.Numbers.{WHOLE, nodesMost, leafMost, queueRoom, costMost, debtMost, endMost}
 use Rattle.rules.specs.Words.{sumTo, has, noNode}
-use Rattle.rules.specs.Cost.{costOf, endOf, isForced, isSequential, bioInRange}
+use Rattle.rules.specs.Cost.{costOf, endOf, isFlush, isForced, isSequential, bioInRange}
 use Rattle.rules.specs.Tree.{isLeaf}
 use Rattle.rules.specs.Budget.{emptyRow, emptyQueue, rowAt, queueAt, shareAt, putLeaf, noted, fits, rebased, entered, rowAfter, queueAfter, endsDonation, answerIn, applied, settled, submission, wouldBe}
 use Rattle.rules.specs.Refusals.{firstOf, isWait, isDebt, costChecks, roomChecks, submitChecks}
@@ -29,7 +29,7 @@ use Rattle.rules.specs.Laws.Queues.{pushed-sound, pushed-waiting}
 use Rattle.rules.specs.Laws.Rows.{fitting-charge-pays, charge-keeps, owing-keeps, noted-keeps}
 use Rattle.rules.specs.Laws.Answers.{issued-fits}
 use Rattle.rules.specs.Laws.Verdicts.{accepted-exactly-when}
-use Rattle.rules.specs.Laws.Resharing.{FreeLeaf, SoundRoles, SoundBooks, shares-of, roles-of, books-of, sound-of, active-node, rebasing-keeps, Reweighed, reweighed-itself, rebasing-reweighs, entering-keeps, entering-reweighs, entered-is-active}
+use Rattle.rules.specs.Laws.Resharing.{FreeLeaf, SoundRoles, SoundBooks, shares-of, roles-of, books-of, sound-of, active-node, rebasing-keeps, Reweighed, reweighed-itself, rebasing-reweighs, active-of-rebased, entering-keeps, entering-reweighs, entered-is-active}
 use Rattle.rules.specs.declared.units.Abs.{Abs}
 use Rattle.rules.specs.declared.cost.Model.{Model}
 use Rattle.rules.specs.declared.cost.Bio.{Bio}
@@ -103,6 +103,44 @@ module _ (b : Bio) (cost : Abs) (share : ℕ) (r : Row) (q : Queue) (pos : 0 < s
       free = λ e w. record { no-debt = w .no-debt; no-waiter = w .no-waiter };
     }
 
+-- ---- what a row holds beside its budget, its debt and its usage
+pub record SameMarks (r r′ : Row) : Type 0 where
+  pub end : r′ .end ≡ r .end
+  pub begun : r′ .begun ≡ r .begun
+  pub accepted : r′ .accepted ≡ r .accepted
+
+pub same-marks : (r : Row) → SameMarks r r
+same-marks r = record { end = refl; begun = refl; accepted = refl }
+
+then-marks : {p q r : Row} → SameMarks p q → SameMarks q r → SameMarks p r
+then-marks x y = record { end = y .end ∙ x .end; begun = y .begun ∙ x .begun; accepted = y .accepted ∙ x .accepted }
+
+-- an answer by itself leaves them: what is noted comes on top
+answer-marks : (a : Answer) (cost : Abs) (share : ℕ) (r : Row) → SameMarks r (rowAfter a cost share r)
+unfolding rowAfter
+answer-marks Issued cost share r = record { end = refl; begun = refl; accepted = refl }
+answer-marks Waits cost share r = record { end = refl; begun = refl; accepted = refl }
+answer-marks OnDebt cost share r = record { end = refl; begun = refl; accepted = refl }
+answer-marks (Declined x) cost share r = record { end = refl; begun = refl; accepted = refl }
+
+noted-marks : (b : Bio) {r r′ : Row} → SameMarks r r′ → SameMarks (noted b r) (noted b r′)
+noted-marks b x = record {
+  end = ap (λ e. cond (isFlush b) e (endOf b)) (x .end);
+  begun = ap (λ t. cond (isFlush b) t true) (x .begun);
+  accepted = refl;
+}
+
+-- they are, of the bio's own leaf, as noted, and of every other leaf as they were
+pub record Noted (b : Bio) (j : ℕ) (r r′ : Row) : Type 0 where
+  pub here : j ≡ b .node → SameMarks (noted b r) r′
+  pub elsewhere : j ≢ b .node → SameMarks r r′
+
+notes-between : {b : Bio} {j : ℕ} {p q r t : Row} → SameMarks p q → Noted b j q r → SameMarks r t → Noted b j p t
+notes-between {b} x n y = record {
+  here = λ e. then-marks (then-marks (noted-marks b x) (n .here e)) y;
+  elsewhere = λ e. then-marks (then-marks x (n .elsewhere e)) y;
+}
+
 -- ---- one leaf is put back: what holds of it and of the others holds everywhere
 pub put-each : (P : ℕ → Row → Queue → Type 0) (n : ℕ) (r : Row) (q : Queue) (c : Controller)
     → length (c .rows) ≡ nodesMost → length (c .queues) ≡ nodesMost → n < nodesMost
@@ -137,6 +175,13 @@ module _ {c c′ : Controller} (w : Reweighed c c′) where
 
   pub reweighed-waiting : (j : ℕ) → waiting c′ j ≡ waiting c j
   reweighed-waiting j = ap (λ (q : Queue). costOfFirst q (q .len)) (reweighed-queue j)
+
+  reweighed-marks : (j : ℕ) → SameMarks (rowAt c j) (rowAt c′ j)
+  reweighed-marks j = record {
+    end = ap (λ (r : Row). r .end) (w .row j);
+    begun = ap (λ (r : Row). r .begun) (w .row j);
+    accepted = ap (λ (r : Row). r .accepted) (w .row j);
+  }
 
   pub reweighed-cost : (b : Bio) (j : ℕ) → costOf (c′ .model) (rowAt c′ j) b ≡ costOf (c .model) (rowAt c j) b
   unfolding costOf isSequential
@@ -301,6 +346,20 @@ module _ {c : Controller} (s : Sound c) (b : Bio) (a : Answer) (on : has (c .act
       (rw (cost-here b c) (kept .owed))
       (λ j e. rw (cost-elsewhere b c j e, none-owed a) (omega arith))
 
+  applied-notes : (j : ℕ) → Noted b j (rowAt c j) (rowAt (applied a b c) j)
+  applied-notes =
+      each (λ j r q. Noted b j (rowAt c j) r)
+      (record { here = λ e. noted-marks b (answer-marks a _ _ _); elsewhere = λ n. absurd (n refl) })
+      (λ j n. record { here = λ e. absurd (n e); elsewhere = λ e. same-marks (rowAt c j) })
+
+  settled-active : settled a b c .active ≡ c .active
+  unfolding settled applied
+  settled-active = go (endsDonation a && has (c .donors) (b .node))
+    where
+      go : (t : Bool) → cond t (rebased (c .active) (applied a b c)) (applied a b c) .active ≡ c .active
+      go true = active-of-rebased (c .active) (applied a b c)
+      go false = refl
+
 -- ---- a bio that is not refused
 pub record Admitted (b : Bio) (c : Controller) : Type 0 where
   pub leaf : isLeaf (c .tree) (b .node) ≡ true
@@ -381,10 +440,21 @@ module _ {c : Controller} (s : Sound c) (b : Bio) (ok : Admitted b c) where
       reweighed-debt (settling-reweighs there b (wouldBe c b) on kept) j
       ∙ rw (reweighed-cost-on same b j, reweighed-debt same j) at (applied-owed there b (wouldBe c b) on kept j)
 
+  pub submission-notes : (j : ℕ) → Noted b j (rowAt c j) (rowAt (submission b c .state) j)
+  unfolding submission wouldBe
+  submission-notes j =
+      notes-between (reweighed-marks same j) (applied-notes there b (wouldBe c b) on kept j)
+      (reweighed-marks (settling-reweighs there b (wouldBe c b) on kept) j)
+
+  -- an accepted bio's leaf is active
+  pub submission-is-active : has (submission b c .state .active) (b .node) ≡ true
+  unfolding submission wouldBe
+  submission-is-active = rw (settled-active there b (wouldBe c b) on kept) on
+
 -- ---- any bio: a refused one changes nothing
 module _ {c : Controller} (s : Sound c) (b : Bio) where
   -- by the verdict: a fact of the refused call's state and of the submission's is one of both
-  by-verdict : (P : Answer → Controller → Type 0)
+  pub by-verdict : (P : Answer → Controller → Type 0)
       → ((x : Refusal) → P (Declined x) c) → (Admitted b c → P (submission b c .answer) (submission b c .state))
       → P (submitted b c .answer) (submitted b c .state)
   unfolding submitted submittedBy

@@ -21,12 +21,11 @@ enum-told c = search needs
 -- above the needs that a lie about it may leave true: the first error is what is false
 returns : tie.Need-returns
 returns c =
-    let taking = c .before .before .before in
+    let taking = c .before .before in
     let judging = taking .before .before .before in
     let forcing = judging .before .before in
     accepts (forcing .before .args .waiting) (forcing .before .pre) (forcing .is-forced .ensures) (judging .before .answer-to .ensures) (judging .room .ensures)
-    (taking .before .enum-told .given .1) (c .before .before .end-of .ensures) (taking .row-after .ensures) (c .before .noted .ensures)
-    (c .queueing-of .ensures)
+    (taking .before .enum-told .given .1) (taking .row-after .ensures) (c .before .noted .ensures) (c .queueing-of .ensures)
 
 row-after-requires : tie.Need-row-after-requires
 row-after-requires c κs =
@@ -34,13 +33,10 @@ row-after-requires c κs =
     let forcing = judging .before .before in
     can-take (forcing .before .args .waiting) (forcing .before .pre) (forcing .is-forced .ensures) (judging .before .answer-to .ensures) (judging .room .ensures)
 
-end-of-requires : tie.Need-end-of-requires
-end-of-requires c κs =
+noted-requires : tie.Need-noted-requires
+noted-requires c κs =
     let start = c .before .before .before .before .before .before in
     bio-in-range (start .args .bio) .0 (start .pre .range) .sectorFits
-
-noted-requires : tie.Need-noted-requires
-noted-requires c κs = search needs
 
 queueing-of-requires : tie.Need-queueing-of-requires
 queueing-of-requires c κs = search needs
@@ -64,7 +60,6 @@ on-leaf-spec =
     room-requires
     enum-told
     row-after-requires
-    end-of-requires
     noted-requires
     queueing-of-requires
     enum-known-verdict
