@@ -62,7 +62,12 @@ impl Bio {
         let flags_good = self.flags & !(WRITE | FORCED) == 0 || rules.changed(Mutant::FlagsIgnored);
         let sector_good =
             self.sector <= rules.limit(Mutant::SectorOneLess, Mutant::SectorOneMore, MAX_SECTOR);
-        if bytes_good && flags_good && sector_good {
+        let good = if self.is_flush(rules) {
+            self.is_flush_good(flags_good, sector_good, rules)
+        } else {
+            bytes_good && flags_good && sector_good
+        };
+        if good {
             Ok(())
         } else {
             Err(Refusal::BioRange)
