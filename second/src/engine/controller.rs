@@ -221,8 +221,7 @@ impl Controller {
     pub(super) fn is_sequential(&self, number: usize, bio: &Bio) -> bool {
         let end = self.leaves[self.end_holder(number)].end;
         is_sequential(end, bio.sector, self.rules)
-            || self.rules.changed(Mutant::NearByOwnEnd)
-                && is_sequential(end, bio.end(), self.rules)
+            || self.rules.changed(Mutant::NearByOwnEnd) && is_sequential(end, bio.end(), self.rules)
             || self.is_second_to_flush(number)
     }
 

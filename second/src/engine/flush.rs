@@ -117,15 +117,11 @@ impl Controller {
             }
             Mutant::FlushPassesWaiter if !forced && !leaf.owes() && fits => Ok(Answer::Issued),
             Mutant::FlushPassesDebt if leaf.owes() && !waits && fits => Ok(Answer::Issued),
-            Mutant::ForcedFlushBehindWaiters if forced && waits => {
-                judged.map(|_| Answer::OnDebt)
-            }
+            Mutant::ForcedFlushBehindWaiters if forced && waits => judged.map(|_| Answer::OnDebt),
             Mutant::FlushNotForced => self.judge_unforced(leaf, cost),
             Mutant::FlushForced => self.judge_forced(leaf, cost),
             Mutant::FlushFindsRoom if judged == Err(Refusal::QueueFull) => Ok(Answer::Waits),
-            Mutant::FlushPassesDebtLimit if judged == Err(Refusal::DebtLimit) => {
-                Ok(Answer::OnDebt)
-            }
+            Mutant::FlushPassesDebtLimit if judged == Err(Refusal::DebtLimit) => Ok(Answer::OnDebt),
             _ => judged,
         }
     }
