@@ -75,8 +75,8 @@ impl Bio {
     }
 }
 
-/// Whether a bio at `sector` is sequential for a leaf whose last accepted bio
-/// ended at `end`.
+/// Whether a bio at `sector` is sequential for a leaf whose last accepted bio,
+/// flushes left out, ended at `end`.
 pub fn is_sequential(end: Option<u64>, sector: u64, rules: Rules) -> bool {
     let near = rules.limit(Mutant::NearOneLess, Mutant::NearOneMore, NEAR_SECTORS);
     match end {

@@ -77,7 +77,7 @@ pub struct Leaf {
     pub usage: Absolute,
     /// Whether a bio was accepted since the last plan.
     pub accepted: bool,
-    /// Where the last accepted bio ended, if there was one.
+    /// Where the last accepted bio that is no flush ended, if there was one.
     pub end: Option<u64>,
 }
 
