@@ -8,6 +8,7 @@ use std::time::Duration;
 use crate::comparison::pair::{on_all_cores, Pair};
 use crate::comparison::tally::Tally;
 use crate::comparison::watch::{Feed, Program, Watch};
+use crate::engine::rules::Rules;
 use crate::generator::damage::{repeat_behind_setup, scatter};
 use crate::generator::generate::generate;
 use crate::generator::random::Random;
@@ -93,18 +94,24 @@ impl Damage {
     }
 }
 
-/// A small good trace: the first from a seed on that sets a weight, so that
-/// such a record is cut and changed too.
+/// A small good trace: the first from a seed on that sets a weight and has a
+/// flush, so that such records are cut and changed too.
 fn small_trace(seed: u64) -> io::Result<Vec<u8>> {
     let mut step = 0;
     loop {
         let mut trace = Vec::new();
-        generate(seed.wrapping_add(step), 20, Style::Valid, &mut trace)?;
+        generate(seed.wrapping_add(step), 26, Style::Valid, &mut trace)?;
         let mut reader = Reader::new(&trace);
+        let (mut weight, mut flush) = (false, false);
         while let Ok(Some(record)) = reader.next() {
-            if matches!(record, Record::Weight { .. }) {
-                return Ok(trace);
+            match record {
+                Record::Weight { .. } => weight = true,
+                Record::Bio(bio) => flush = flush || bio.is_flush(Rules::TRUE),
+                _ => {}
             }
+        }
+        if weight && flush {
+            return Ok(trace);
         }
         step += 1;
     }

@@ -16,6 +16,7 @@ const TRACES: &[(Style, u64, u64)] = &[
     (Style::Idle, 8, 12_000),
     (Style::Few, 8, 12_000),
     (Style::Edges, 300, 700),
+    (Style::Flushes, 120, 200),
     (Style::Clock, 120, 200),
     (Style::Valid, 200, 500),
     (Style::Damaged, 500, 120),

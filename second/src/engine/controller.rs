@@ -1,5 +1,5 @@
 //! The controller: start, submit, tick and plan. The clock, which says how far
-//! a tick goes, and a weight are next door.
+//! a tick goes, a weight and what is special of a flush are next door.
 //!
 //! Every call first finds its answer or its refusal without changing
 //! anything, and only then changes the state; a refused call so leaves the
@@ -61,6 +61,8 @@ pub(super) struct Aside {
     pub(super) vrate: Option<u16>,
     /// The tree as the setup gave it.
     pub(super) tree: Tree,
+    /// The leaves with an accepted flush.
+    pub(super) flushed: u64,
 }
 
 impl Controller {
@@ -88,6 +90,7 @@ impl Controller {
             rest_of_period: 0,
             vrate: None,
             tree: tree.clone(),
+            flushed: 0,
         };
         Ok(Controller {
             tree,
@@ -124,17 +127,19 @@ impl Controller {
         };
         self.note_accepted(number, bio, answer);
         self.keep_remainder(Mutant::RestLostAtBio);
-        if !is_member(self.active, number) {
+        let flush = bio.is_flush(self.rules);
+        let wakes = !(flush && self.rules.changed(Mutant::FlushWakesNobody));
+        if !is_member(self.active, number) && wakes {
             self.activate(number);
             self.keep_remainder(Mutant::RestLostAtActivation);
         }
         let leaf = &mut self.leaves[number];
         match answer {
-            Answer::Issued => leaf.issue(cost, self.rules),
-            Answer::Waits => leaf.wait(bio.id, cost, self.rules),
-            Answer::OnDebt => leaf.owe(cost, self.rules),
+            Answer::Issued => leaf.issue(cost, flush, self.rules),
+            Answer::Waits => leaf.wait(bio.id, cost, flush, self.rules),
+            Answer::OnDebt => leaf.owe(cost, flush, self.rules),
         }
-        if self.ends_donation(number, answer) {
+        if self.ends_donation(number, answer, flush) {
             self.return_to_base();
         }
         Ok(answer)
@@ -146,15 +151,17 @@ impl Controller {
         let number = usize::from(bio.node);
         let is_node = (1..self.tree.count()).contains(&number);
         let is_inner = self.tree.is_inner(number);
-        if is_node && (!is_inner || self.rules.changed(Mutant::InnerSubmits)) {
+        let inner_good = self.rules.changed(Mutant::InnerSubmits)
+            || self.rules.changed(Mutant::InnerFlushes) && bio.is_flush(self.rules);
+        if is_node && (!is_inner || inner_good) {
             Ok(number)
         } else {
             Err(Refusal::NoLeaf)
         }
     }
 
-    /// An accepted bio moves its leaf's end, whatever the answer, and keeps
-    /// the leaf active at the next plan.
+    /// An accepted bio but a flush moves its leaf's end, whatever the answer;
+    /// and every one keeps the leaf active at the next plan.
     fn note_accepted(&mut self, number: usize, bio: &Bio, answer: Answer) {
         let (leaves_end, not_counted) = match answer {
             Answer::Issued => (Mutant::IssuedLeavesEnd, Mutant::IssuedNotAccepted),
@@ -163,17 +170,23 @@ impl Controller {
         };
         let owed_and_left =
             self.leaves[number].owes() && self.rules.changed(Mutant::OwingLeavesEnd);
-        if !owed_and_left && !self.rules.changed(leaves_end) {
+        let flush = bio.is_flush(self.rules);
+        if flush {
+            self.note_flush(number, bio, answer);
+        } else if !owed_and_left && !self.rules.changed(leaves_end) {
             self.move_end(number, bio);
         }
-        if !self.rules.changed(not_counted) {
+        let counted = !(flush && self.rules.changed(Mutant::FlushNotAccepted));
+        if counted && !self.rules.changed(not_counted) {
             self.leaves[number].accepted = true;
         }
     }
 
     /// A refused bio changes nothing, but under a mutant.
     fn note_refused(&mut self, number: usize, bio: &Bio) {
-        if self.rules.changed(Mutant::RefusedMovesEnd) {
+        let refused_flush =
+            self.rules.changed(Mutant::RefusedFlushMovesEnd) && bio.is_flush(self.rules);
+        if self.rules.changed(Mutant::RefusedMovesEnd) || refused_flush {
             self.move_end(number, bio);
         }
         if self.rules.changed(Mutant::RefusedAccepted) {
@@ -186,7 +199,7 @@ impl Controller {
         self.keep_remainder(Mutant::RestLostAtRefusedBio);
     }
 
-    fn move_end(&mut self, number: usize, bio: &Bio) {
+    pub(super) fn move_end(&mut self, number: usize, bio: &Bio) {
         let end = if self.rules.changed(Mutant::EndAtFirstSector) {
             bio.sector
         } else {
@@ -204,12 +217,21 @@ impl Controller {
         }
     }
 
-    /// The cost of a bio to a leaf by the formula, not yet held to its limit.
-    pub fn cost_of(&self, number: usize, bio: &Bio) -> Absolute {
+    /// Whether a bio is sequential for a leaf.
+    pub(super) fn is_sequential(&self, number: usize, bio: &Bio) -> bool {
         let end = self.leaves[self.end_holder(number)].end;
-        let sequential = is_sequential(end, bio.sector, self.rules)
-            || self.rules.changed(Mutant::NearByOwnEnd)
-                && is_sequential(end, bio.end(), self.rules);
+        is_sequential(end, bio.sector, self.rules)
+            || self.rules.changed(Mutant::NearByOwnEnd) && is_sequential(end, bio.end(), self.rules)
+            || self.is_second_to_flush(number)
+    }
+
+    /// The cost of a bio to a leaf by the formula, not yet held to its limit;
+    /// a flush has its own.
+    pub fn cost_of(&self, number: usize, bio: &Bio) -> Absolute {
+        if bio.is_flush(self.rules) {
+            return self.flush_cost(number, bio);
+        }
+        let sequential = self.is_sequential(number, bio);
         self.model
             .cost(bio.is_write(), sequential, bio.bytes, self.rules)
     }
@@ -239,14 +261,15 @@ impl Controller {
 
     /// The answer to a bio of this cost; refusals 7 and 8.
     fn answer(&self, number: usize, bio: &Bio, cost: Absolute) -> Result<Answer, Refusal> {
-        if bio.is_forced() {
-            self.judge_forced(&self.leaves[number], cost)
-        } else {
-            self.judge_unforced(&self.leaves[number], cost)
+        let leaf = &self.leaves[number];
+        match self.rules.mutant() {
+            Some(mutant) if bio.is_flush(self.rules) => self.answer_flush(mutant, leaf, bio, cost),
+            _ if bio.is_forced() => self.judge_forced(leaf, cost),
+            _ => self.judge_unforced(leaf, cost),
         }
     }
 
-    fn judge_unforced(&self, leaf: &Leaf, cost: Absolute) -> Result<Answer, Refusal> {
+    pub(super) fn judge_unforced(&self, leaf: &Leaf, cost: Absolute) -> Result<Answer, Refusal> {
         let behind_debt = leaf.owes() && !self.rules.changed(Mutant::UnforcedPassesDebt);
         let behind_waiter =
             !leaf.queue.is_empty() && !self.rules.changed(Mutant::UnforcedPassesWaiter);
@@ -260,7 +283,7 @@ impl Controller {
         Ok(Answer::Waits)
     }
 
-    fn judge_forced(&self, leaf: &Leaf, cost: Absolute) -> Result<Answer, Refusal> {
+    pub(super) fn judge_forced(&self, leaf: &Leaf, cost: Absolute) -> Result<Answer, Refusal> {
         let behind_debt = leaf.owes() && !self.rules.changed(Mutant::ForcedPassesDebt);
         let behind_waiter =
             !leaf.queue.is_empty() && self.rules.changed(Mutant::ForcedBehindWaiters);
@@ -309,11 +332,15 @@ impl Controller {
 
     /// Whether a bio with this answer ends the donation: a donor's that was
     /// not issued.
-    fn ends_donation(&self, number: usize, answer: Answer) -> bool {
+    fn ends_donation(&self, number: usize, answer: Answer, flush: bool) -> bool {
         let giver =
             is_member(self.donors, number) || self.rules.changed(Mutant::AnyWaitEndsDonation);
         let ends = match answer {
-            Answer::Issued => self.rules.changed(Mutant::DonorIssueEndsDonation),
+            Answer::Issued => {
+                self.rules.changed(Mutant::DonorIssueEndsDonation)
+                    || flush && self.rules.changed(Mutant::DonorFlushEndsDonation)
+            }
+            _ if flush && self.rules.changed(Mutant::DonorFlushKeepsDonation) => false,
             Answer::Waits => !self.rules.changed(Mutant::DonorWaitKeepsDonation),
             Answer::OnDebt => !self.rules.changed(Mutant::DonorDebtKeepsDonation),
         };

@@ -62,7 +62,12 @@ impl Bio {
         let flags_good = self.flags & !(WRITE | FORCED) == 0 || rules.changed(Mutant::FlagsIgnored);
         let sector_good =
             self.sector <= rules.limit(Mutant::SectorOneLess, Mutant::SectorOneMore, MAX_SECTOR);
-        if bytes_good && flags_good && sector_good {
+        let good = if self.is_flush(rules) {
+            self.is_flush_good(flags_good, sector_good, rules)
+        } else {
+            bytes_good && flags_good && sector_good
+        };
+        if good {
             Ok(())
         } else {
             Err(Refusal::BioRange)
@@ -70,8 +75,8 @@ impl Bio {
     }
 }
 
-/// Whether a bio at `sector` is sequential for a leaf whose last accepted bio
-/// ended at `end`.
+/// Whether a bio at `sector` is sequential for a leaf whose last accepted bio,
+/// flushes left out, ended at `end`.
 pub fn is_sequential(end: Option<u64>, sector: u64, rules: Rules) -> bool {
     let near = rules.limit(Mutant::NearOneLess, Mutant::NearOneMore, NEAR_SECTORS);
     match end {

@@ -14,6 +14,8 @@ pub struct Waiting {
     pub cost: Absolute,
     /// The share its leaf had when it came; only a mutant looks at it.
     pub share: u64,
+    /// Whether it is a flush; here too only a mutant asks.
+    pub flush: bool,
 }
 
 /// The waiting bios of a leaf, oldest first, in a ring of fixed room.
@@ -75,7 +77,7 @@ pub struct Leaf {
     pub usage: Absolute,
     /// Whether a bio was accepted since the last plan.
     pub accepted: bool,
-    /// Where the last accepted bio ended, if there was one.
+    /// Where the last accepted bio that is no flush ended, if there was one.
     pub end: Option<u64>,
 }
 
@@ -101,14 +103,30 @@ impl Leaf {
     }
 
     /// Charges a bio that is issued and so fits.
-    pub fn issue(&mut self, cost: Absolute, rules: Rules) {
+    pub fn issue(&mut self, cost: Absolute, flush: bool, rules: Rules) {
         let relative = relative_cost(cost, self.share, rules);
-        self.charge(cost, relative, Mutant::IssuedNoUsage, rules);
+        let (free, no_usage) = if flush {
+            let free = rules.changed(Mutant::IssuedFlushNoBudget);
+            (free, Mutant::IssuedFlushNoUsage)
+        } else {
+            (false, Mutant::IssuedNoUsage)
+        };
+        self.charge(cost, relative, free, no_usage, rules);
     }
 
     #[inline(always)]
-    fn charge(&mut self, cost: Absolute, relative: Relative, no_usage: Mutant, rules: Rules) {
-        self.budget -= relative;
+    fn charge(
+        &mut self,
+        cost: Absolute,
+        relative: Relative,
+        free: bool,
+        no_usage: Mutant,
+        rules: Rules,
+    ) {
+        if !free {
+            // Only a mutant may ask for more than there is.
+            self.budget.0 = self.budget.0.saturating_sub(relative.0);
+        }
         if rules.changed(Mutant::UsageRelative) {
             self.usage.0 += relative.0;
         } else if !rules.changed(no_usage) {
@@ -116,17 +134,26 @@ impl Leaf {
         }
     }
 
-    pub fn wait(&mut self, id: u32, cost: Absolute, rules: Rules) {
-        let share = self.share;
-        self.queue.push(Waiting { id, cost, share });
+    pub fn wait(&mut self, id: u32, cost: Absolute, flush: bool, rules: Rules) {
+        // Only a mutant has a bio wait where there is no room; it is lost.
+        if self.queue.len() < QUEUE_ROOM {
+            self.queue.push(Waiting {
+                id,
+                cost,
+                share: self.share,
+                flush,
+            });
+        }
         if rules.changed(Mutant::WaitIsUsage) {
             self.usage += cost;
         }
     }
 
     /// The whole cost of a forced bio goes on debt; the budget stays.
-    pub fn owe(&mut self, cost: Absolute, rules: Rules) {
-        self.debt += cost;
+    pub fn owe(&mut self, cost: Absolute, flush: bool, rules: Rules) {
+        if !(flush && rules.changed(Mutant::FlushOwesNothing)) {
+            self.debt += cost;
+        }
         if rules.changed(Mutant::DebtIsUsage) {
             self.usage += cost;
         }
@@ -213,10 +240,17 @@ impl Leaf {
         while let Some((behind, bio)) = self.next_to_go(rules) {
             let relative = self.price(bio, rules);
             let one_only = count == 1 && rules.changed(Mutant::ReleaseOnlyOne);
-            if !self.covers(relative, rules) || one_only {
+            let anyway = bio.flush && rules.changed(Mutant::FlushReleasedAnyway);
+            if !self.covers(relative, rules) && !anyway || one_only {
                 break;
             }
-            self.charge(bio.cost, relative, Mutant::ReleasedNoUsage, rules);
+            let (free, no_usage) = if bio.flush {
+                let free = rules.changed(Mutant::ReleasedFlushNoBudget);
+                (free, Mutant::ReleasedFlushNoUsage)
+            } else {
+                (false, Mutant::ReleasedNoUsage)
+            };
+            self.charge(bio.cost, relative, free, no_usage, rules);
             self.queue.take(behind);
             released[count] = bio.id;
             count += 1;
@@ -231,6 +265,8 @@ impl Leaf {
         let mut waiting = self.queue.iter().enumerate();
         if rules.changed(Mutant::ReleaseNewestFirst) {
             waiting.last()
+        } else if rules.changed(Mutant::FlushReleasedFirst) {
+            waiting.min_by_key(|(behind, bio)| (!bio.flush, *behind))
         } else if rules.changed(Mutant::ReleasePassesOldest) {
             waiting.find(|(_, bio)| self.covers(self.price(*bio, rules), rules))
         } else {

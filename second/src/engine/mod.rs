@@ -4,6 +4,7 @@
 pub mod clock;
 pub mod controller;
 pub mod cost;
+mod flush;
 pub mod leaf;
 pub mod numbers;
 pub mod refusal;

@@ -25,12 +25,6 @@ impl SubAssign for Absolute {
     }
 }
 
-impl SubAssign for Relative {
-    fn sub_assign(&mut self, other: Relative) {
-        self.0 -= other.0;
-    }
-}
-
 /// FLOOR(a x b / c). Where the product passes 64 bits it is taken in 128, so
 /// it never overflows; every quotient the rules ask for fits 64 bits.
 pub fn floor(a: u64, b: u64, c: u64) -> u64 {

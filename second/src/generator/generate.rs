@@ -7,6 +7,7 @@ use crate::generator::damage::{damage, noise};
 use crate::generator::faults::{bad_setup, bad_tree};
 use crate::generator::moves::clock::CLOCK_MOVES;
 use crate::generator::moves::debt::climb_to_debt_limit;
+use crate::generator::moves::flush::FLUSH_MOVES;
 use crate::generator::moves::load::{DEEP_MOVES, FEW_MOVES, FULL_MOVES, IDLE_MOVES};
 use crate::generator::moves::usual::{EDGE_MOVES, USUAL_MOVES};
 use crate::generator::moves::weight::WEIGHT_MOVES;
@@ -37,14 +38,19 @@ fn moves_of(style: Style, random: &mut Random) -> &'static [(u64, Move)] {
         Style::Idle => return IDLE_MOVES,
         Style::Full => return FULL_MOVES,
         Style::Clock if !random.once_in(4) => return CLOCK_MOVES,
+        Style::Flushes if !random.once_in(4) => return FLUSH_MOVES,
         Style::Short | Style::Trees => 5,
-        Style::Long | Style::Valid | Style::Weights | Style::Clock => 16,
+        Style::Long | Style::Valid | Style::Weights => 16,
+        Style::Clock | Style::Flushes => 16,
         Style::Damaged | Style::Noise => 10,
         Style::Edges => 2,
     };
     // `long` is measured, and so stays as it is.
-    if style != Style::Long && random.once_in(8) {
+    let measured = style == Style::Long;
+    if !measured && random.once_in(8) {
         WEIGHT_MOVES
+    } else if !measured && random.once_in(8) {
+        FLUSH_MOVES
     } else if random.once_in(edges_once_in) {
         EDGE_MOVES
     } else {

@@ -4,7 +4,7 @@
 use std::io::{self, Write};
 
 use crate::engine::controller::Controller;
-use crate::engine::rules::Rules;
+use crate::engine::rules::{Mutant, Rules};
 use crate::generator::random::Random;
 use crate::generator::style::Style;
 use crate::trace::record::{encode, Record, LONGEST};
@@ -28,9 +28,14 @@ impl Generator {
         let mut random = Random::new(seed);
         // Styles draw from different numbers even for the same seed.
         let stir = random.number() ^ style as u64;
+        // `long` is measured, and so stays as it was when flushes were refused.
+        let rules = match style {
+            Style::Long => Rules::with(Mutant::FlushRefused),
+            _ => Rules::TRUE,
+        };
         Generator {
             random: Random::new(stir),
-            replay: Replay::new(Rules::TRUE),
+            replay: Replay::new(rules),
             written: Vec::new(),
             left: 0,
             only_accepted: style == Style::Valid,

@@ -8,6 +8,7 @@ use crate::engine::refusal::{Refusal, LAST_NUMBER};
 use crate::engine::rules::Rules;
 use crate::engine::tree::MAX_WEIGHT;
 use crate::observation::events::Event;
+use crate::observation::flushes::Flushes;
 use crate::observation::observe::observe;
 use crate::trace::record::{Record, START, WEIGHT};
 use crate::trace::replay::{Outcome, Phase, Replay};
@@ -74,6 +75,7 @@ impl Census {
     pub fn add(&mut self, trace: impl Read) -> io::Result<()> {
         let mut stream = Stream::new(trace);
         let mut replay = Replay::new(Rules::TRUE);
+        let mut flushes = Flushes::new();
         let mut records = 0;
         let mut refused = false;
         while !replay.stopped() {
@@ -93,9 +95,10 @@ impl Census {
                 self.count_cut(stream.next_kind(), replay.controller().is_some());
             }
             if let Ok(record) = next {
-                observe(&before, &record, outcome, &replay.phase, &mut |event| {
-                    self.hit(event)
-                });
+                let after = &replay.phase;
+                let hit = &mut |event| self.hit(event);
+                observe(&before, &record, outcome, after, hit);
+                flushes.observe(&before, &record, outcome, after, hit);
                 if let (Record::Node { .. }, true, Phase::Setup { tree, .. }) =
                     (record, replay.stopped(), &before)
                 {

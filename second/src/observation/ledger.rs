@@ -1,4 +1,5 @@
-//! The sums of demand 3, kept beside a replay and held against it.
+//! The sums of demand 3 and the ends of the last bios, kept beside a replay and
+//! held against it.
 
 use crate::engine::clock::HUNDREDTHS;
 use crate::engine::controller::{Answer, Controller};
@@ -26,6 +27,8 @@ struct Ledger {
     generated: u128,
     /// Virtual time at the last plan, or start.
     planned: u64,
+    /// Where each leaf's last accepted bio that is no flush ended.
+    ends: [Option<u64>; MAX_NODES],
 }
 
 fn waiting_cost(leaf: &Leaf) -> u64 {
@@ -40,6 +43,9 @@ impl Ledger {
             self.accounts[number].accepted += cost;
             if answer == Answer::Issued {
                 self.accounts[number].issued += cost;
+            }
+            if bio.bytes > 0 {
+                self.ends[number] = Some(bio.end());
             }
         }
         match (record, outcome) {
@@ -94,6 +100,11 @@ impl Ledger {
         if u128::from(spent) > self.generated / u128::from(HUNDREDTHS) {
             return Some("more spent than virtual time");
         }
+        for (end, leaf) in self.ends.iter().zip(&after.leaves) {
+            if leaf.end != *end {
+                return Some("an end is not that of the last bio but flushes");
+            }
+        }
         for (account, leaf) in self.accounts.iter().zip(&after.leaves) {
             let heads = account.issued
                 + account.released
@@ -136,6 +147,7 @@ pub fn audit(trace: &[u8], rules: Rules) -> Option<&'static str> {
         accounts: vec![Account::default(); MAX_NODES],
         generated: 0,
         planned: 0,
+        ends: [None; MAX_NODES],
     };
     while let Ok(Some(record)) = reader.next() {
         let before = replay.phase.clone();

@@ -3,5 +3,6 @@
 
 pub mod census;
 pub mod events;
+mod flushes;
 pub mod ledger;
 pub mod observe;

@@ -374,9 +374,13 @@ fn observe_refused_bio(before: &Controller, bio: &Bio, refusal: Refusal, sink: &
     sink.when(far, Event::EndOfRefusedIgnored);
 }
 
+/// Of 0 bytes are only flushes, whose bytes are good, and reads, which are
+/// counted with them.
 fn observe_bad_bio(bio: &Bio, sink: &mut Sink) {
+    if bio.bytes == 0 && !bio.is_write() {
+        return;
+    }
     sink.only_one(&[
-        (bio.bytes == 0, Event::BytesZero),
         (bio.bytes % 512 != 0, Event::BytesUneven),
         (bio.bytes > MAX_BYTES, Event::BytesTooMany),
         (bio.sector == MAX_SECTOR + 1, Event::SectorTooLarge),
@@ -396,6 +400,9 @@ fn observe_cost(before: &Controller, number: usize, bio: &Bio, sink: &mut Sink) 
     let repeated = members(before.active)
         .any(|other| before.leaves[other].queue.iter().any(|w| w.id == bio.id));
     sink.when(repeated, Event::IdWaitsAlready);
+    if bio.is_flush(Rules::TRUE) {
+        return;
+    }
     // Being sequential only shows where it changes the cost.
     let by_place = |sequential| {
         before

@@ -1,8 +1,9 @@
 //! The self test: document 01's bench numbers and whole case, numbers from
-//! outside it, the clock, what is told of bad trees, round trips, and the
+//! outside it, the clock, flushes, what is told of bad trees, round trips, and the
 //! refusals no trace can reach.
 
 mod clock;
+mod flush;
 mod trees;
 
 use std::fmt::Debug;
@@ -45,7 +46,7 @@ impl Checks {
 }
 
 /// Fewer checks are no test: a loop over nothing is no success.
-const LEAST: u64 = 5_498;
+const LEAST: u64 = 6_030;
 
 /// A group of checks; a refusal ends it where none belongs.
 type Group = fn(&mut Checks) -> Result<(), Refusal>;
@@ -67,6 +68,12 @@ const GROUPS: &[(&str, Group)] = &[
     ("calls between ticks", clock::calls_between),
     ("refused ticks", clock::refused_ticks),
     ("limits of the clock", clock::limits),
+    ("costs of flushes", flush::costs),
+    ("ranges of flushes", flush::ranges),
+    ("answers to flushes", flush::answers),
+    ("refusals of flushes", flush::refusals),
+    ("laws of flushes", flush::laws),
+    ("noticed flushes", flush::noticed),
     ("counts of nodes", trees::counts),
     ("one bad node", trees::single_faults),
     ("two bad nodes", trees::faults_of_two),
@@ -749,6 +756,7 @@ fn noticed_faults(checks: &mut Checks) -> io::Result<()> {
     let time = "virtual time and the remainder are not the time that passed";
     let nanosecond = "the remainder is a nanosecond or more";
     let period = "E is not the virtual time since the last plan";
+    let end = "an end is not that of the last bio but flushes";
     let faults = [
         (Mutant::BudgetKeptAtRise, Style::Long, spent),
         (Mutant::RemainderLost, Style::Long, sums),
@@ -769,6 +777,12 @@ fn noticed_faults(checks: &mut Checks) -> io::Result<()> {
         (Mutant::RestLostAtRefusedVrate, Style::Clock, changed),
         (Mutant::RestMovedAtLimit, Style::Clock, changed),
         (Mutant::PeriodOfTickAlone, Style::Clock, period),
+        (Mutant::FlushMovesEnd, Style::Flushes, end),
+        (Mutant::FlushIsFirst, Style::Flushes, end),
+        (Mutant::FlushTakesEnd, Style::Flushes, end),
+        (Mutant::FlushOwesNothing, Style::Flushes, costs),
+        (Mutant::IssuedFlushNoBudget, Style::Flushes, spent),
+        (Mutant::RefusedFlushMovesEnd, Style::Flushes, changed),
     ];
     for (mutant, style, fault) in faults {
         let mut noticed = false;

@@ -222,7 +222,7 @@ fn plan_by_remainder(g: &mut Generator) {
 }
 
 /// What a leaf's budget lacks for its debt, or else for its oldest waiter.
-fn missing(g: &Generator, number: usize) -> u64 {
+pub fn missing(g: &Generator, number: usize) -> u64 {
     let leaf = g.leaf(number);
     let wanted = match leaf.queue.oldest() {
         _ if leaf.owes() => relative_cost(leaf.debt, leaf.share, Rules::TRUE),

@@ -9,13 +9,16 @@ use crate::engine::rules::Rules;
 use crate::generator::state::Generator;
 use crate::trace::record::Record;
 
-/// The dearest forced bios on one leaf until one is refused for its debt.
+/// The dearest forced bios on one leaf until one is refused for its debt; a
+/// flush is then refused too.
 pub fn climb_to_debt_limit(g: &mut Generator) {
     let number = g.any_leaf();
     for _ in 0..514 {
         let bio = g.dear_bio(number, FORCED);
         g.submit(bio);
     }
+    let flush = g.bio(number, FORCED | WRITE, 0, 0);
+    g.submit(flush);
 }
 
 /// A forced bio that does not fit, so that its leaf owes.

@@ -3,6 +3,7 @@
 pub mod clock;
 pub mod debt;
 pub mod donation;
+pub mod flush;
 pub mod load;
 pub mod usual;
 pub mod weight;

@@ -73,7 +73,7 @@ fn usual_weight(g: &mut Generator) {
 
 /// A donation that stands, its leaves with something saved. The answer is one
 /// of its donors, if it came about.
-fn stand_donation(g: &mut Generator) -> Option<usize> {
+pub fn stand_donation(g: &mut Generator) -> Option<usize> {
     if g.controller().donors == 0 {
         make_donation(g);
     }
