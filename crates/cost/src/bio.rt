@@ -129,8 +129,9 @@ fn cost_at(price: Price, sequential: bool, bytes: u32) -> Abs
     Abs(base.0 + price.page.0 * pages(bytes))
 }
 
-// Request Four: a flush "costs one write page, with no base", wherever its leaf's last bio ended.
-fn cost_in_range(model: Model, row: Row, bio: Bio) -> Abs
+// The cost, before anything is refused. Request Four: a flush "costs one write page, with no base", wherever its leaf's
+// last bio ended.
+fn cost_by_rule(model: Model, row: Row, bio: Bio) -> Abs
     requires { ⌜ SoundModel model × (bio .bytes ≤ 2 ^ 20) ⌝ }
     ensures { λ r. ⌜ r ≡ costOf model row bio ⌝ }
 {
@@ -149,7 +150,7 @@ pub fn cost_of(model: Model, row: Row, bio: Bio) -> Costing
     ensures number { λ r. ⌜ costingPaper r ≡ paperOf (costChecks model row bio) (costOf model row bio .0 ∷ []) ⌝ }
 {
     if in_range(bio) {
-        let cost = cost_in_range(model, row, bio);
+        let cost = cost_by_rule(model, row, bio);
         if cost.0 <= COST_MOST {
             Costing::Costs(cost)
         } else {

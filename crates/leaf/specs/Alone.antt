@@ -40,6 +40,6 @@ pub donor-by-count : (target base : ℕ) (row : Row) (q : Queue) → isDonor tar
 unfolding isDonor
 donor-by-count target base row q = refl
 
--- ---- an accepted bio that ends at a sector, which a flush does not
-abbrev pub notedAt : ℕ → Row → Row
-notedAt end row = withAccepted true (withEnd end true row)
+-- ---- an accepted bio that is no flush, by the sector where it ends
+abbrev pub endedAt : ℕ → Row → Row
+endedAt end row = withAccepted true (withEnd end true row)

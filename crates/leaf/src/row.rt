@@ -4,7 +4,7 @@ ghost use mathlib.Core.Bool.{true};
 ghost use Prim.Native.Nat.{_<_};
 ghost use Rattle.rules.specs.Budget.{withBudget, withDebt, withAccepted, charged as chargedOf, owes as owesOf, fits as fitsOf};
 ghost use Rattle.leaf.specs.Fit.{Priced, Payable};
-ghost use Rattle.leaf.specs.Alone.{notedAt};
+ghost use Rattle.leaf.specs.Alone.{endedAt};
 use rules::budget::Row;
 use rules::units::Abs;
 use rules::units::Virt;
@@ -51,7 +51,7 @@ pub(crate) fn charged(cost: Abs, share: u64, mut row: Row) -> Row
     row
 }
 
-// An accepted bio counts since the last plan: a flush does no more.
+// An accepted bio counts since the last plan. A flush does no more.
 pub fn counted(mut row: Row) -> Row
     ensures { λ r. ⌜ r ≡ withAccepted true row ⌝ }
 {
@@ -59,9 +59,9 @@ pub fn counted(mut row: Row) -> Row
     row
 }
 
-// Any other moves the leaf's end too, and is its first if it had none.
-pub fn noted(end: u64, mut row: Row) -> Row
-    ensures { λ r. ⌜ r ≡ notedAt end row ⌝ }
+// An accepted bio that is no flush also moves the leaf's end, and is its first if it had none.
+pub fn ended(end: u64, mut row: Row) -> Row
+    ensures { λ r. ⌜ r ≡ endedAt end row ⌝ }
 {
     row.end = end;
     row.begun = true;

@@ -161,7 +161,7 @@ abbrev pub withAccepted : Bool → Row → Row
 withAccepted a r =
     record { budget = r .budget; debt = r .debt; usage = r .usage; end = r .end; begun = r .begun; accepted = a }
 
--- where a leaf's last bio ended, and whether it had one
+-- where a leaf's last bio ended that was no flush, and whether it had one
 abbrev pub withEnd : ℕ → Bool → Row → Row
 withEnd e begun r =
     record { budget = r .budget; debt = r .debt; usage = r .usage; end = e; begun = begun; accepted = r .accepted }
@@ -175,7 +175,7 @@ abbrev pub charged : Abs → ℕ → Row → Row
 charged cost share r = withUsage (abs (r .usage .0 + cost .0)) (spent (relative cost share) r)
 
 -- an accepted bio moves the leaf's end and is its first, if it had none (DECISIONS 9); request Four: but a flush "does not move
--- the leaf's last end nor count as its first bio"
+-- the leaf's last end nor count as its first bio" (DECISIONS 69)
 abbrev pub endAfter : Bio → Row → ℕ
 endAfter b r = cond (isFlush b) (r .end) (endOf b)
 

@@ -49,7 +49,7 @@ isWrite b = eqb (b .flags % 2) 1
 abbrev pub isForced : Bio → Bool
 isForced b = eqb (b .flags / 2 % 2) 1
 
--- request Four: "A bio with the write flag and 0 bytes .."
+-- request Four: "A bio with the write flag and 0 bytes .." (DECISIONS 69)
 unfoldable pub isFlush : Bio → Bool
 isFlush b = isWrite b && eqb (b .bytes) 0
 
@@ -83,6 +83,7 @@ unfoldable pub costAt : Price → Bool → ℕ → Abs
 costAt price sequential bytes =
     abs (cond sequential (price .sequential .0) (price .random .0) + price .page .0 * CEIL bytes pageBytes)
 
+-- .. of a bio with bytes
 abbrev pub dataCost : Model → Row → Bio → Abs
 dataCost model row b = costAt (cond (isWrite b) (model .write) (model .read)) (isSequential row b) (b .bytes)
 

@@ -115,7 +115,7 @@ fn noted(bio: Bio, row: Row) -> Row
     if cost::is_flush(bio) {
         leaf::row::counted(row)
     } else {
-        leaf::row::noted(cost::end_of(bio), row)
+        leaf::row::ended(cost::end_of(bio), row)
     }
 }
 
@@ -136,10 +136,10 @@ fn on_leaf(bio: Bio, cost: Abs, share: u64, row: Row, waiting: u8) -> Judged
     match verdict {
         Verdict::Accepted => {
             let taken = leaf::submission::row_after(answer, cost, share, row);
-            let row = noted(bio, taken);
+            let last = noted(bio, taken);
             Judged {
                 answer,
-                row,
+                row: last,
                 queue: queueing_of(answer, cost),
             }
         }

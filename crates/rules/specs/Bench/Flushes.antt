@@ -22,7 +22,7 @@ use Rattle.rules.specs.declared.refusals.Answer.the-variants.{Issued, Wa
 use Rattle.rules.specs.declared.refusals.Count.the-variants.{Released}
 use Rattle.rules.specs.declared.refusals.Verdict.the-variants.{Accepted}
 use Rattle.rules.specs.declared.refusals.Refusal.the-variants.{BadBio, QueueFull}
-use Rattle.rules.specs.Bench.{computed, atZero, tree6}
+use Rattle.rules.specs.Bench.{computed, atZero, tree6, tree7}
 use Rattle.rules.specs.Bench.Run.{Move, replies, wants, left, runTree, ask, tickTo, plans}
 use Rattle.rules.specs.Bench.Edges.{Seen, see, allSame, leafNumbers, queueNumbers, bookNumbers, top, leaf1, leaf2, leaf3, heads, saved6, waits6, owes6}
 
@@ -53,20 +53,29 @@ abbrev farOff : Row
 farOff = withEnd 1000000 true atZero
 
 -- the number and the values of what a bio costs on a leaf
+abbrev priceAt : Model → Row → Bio → List ℕ
+priceAt m r b = costingPaper (costing m r b) .number ∷ costingPaper (costing m r b) .values
+
 abbrev says : Row → Bio → List ℕ
-says r b = costingPaper (costing ssd r b) .number ∷ costingPaper (costing ssd r b) .values
+says r b = priceAt ssd r b
+
+-- the same device with reads and writes changed about: a write's page is the cheaper one
+abbrev turned : Model
+turned = record { read = ssd .write; write = ssd .read }
 
 pub flushCosts : List Seen
 flushCosts =
     -- one write page: first, near and far, forced or not
     see (says emptyRow (flush 1 0) ++ says atZero (flush 1 0) ++ says farOff (flush 1 0)) (0 ∷ 9573 ∷ 0 ∷ 9573 ∷ 0 ∷ 9573 ∷ [])
     ∷ see (says emptyRow (forcedFlush 1 0) ++ says atZero (forcedFlush 1 0)) (0 ∷ 9573 ∷ 0 ∷ 9573 ∷ [])
+    ∷ see (priceAt turned emptyRow (flush 1 0) ++ priceAt turned atZero (flush 1 0)) (0 ∷ 8383 ∷ 0 ∷ 8383 ∷ [])
     -- a read of 0 bytes is none, forced or not; nor is a write of 512 bytes, which costs base and page; 1, 511 and 513 are refused
     ∷ see (says atZero (at 1 0 0 0) ++ says atZero (at 1 2 0 0)) (5 ∷ 5 ∷ [])
     ∷ see (says atZero (at 1 1 0 512) ++ says emptyRow (at 1 1 0 512) ++ says atZero (at 1 3 0 512)) (0 ∷ 34777 ∷ 0 ∷ 45579 ∷ 0 ∷ 34777 ∷ [])
     ∷ see (says atZero (at 1 1 0 1) ++ says atZero (at 1 1 0 511) ++ says atZero (at 1 1 0 513)) (5 ∷ 5 ∷ 5 ∷ [])
     -- its sector and its flags are checked as ever
     ∷ see (says atZero (flush 1 (2 ^ 48)) ++ says atZero (flush 1 (2 ^ 48 + 1))) (0 ∷ 9573 ∷ 5 ∷ [])
+    ∷ see (says atZero (forcedFlush 1 (2 ^ 48)) ++ says atZero (forcedFlush 1 (2 ^ 48 + 1))) (0 ∷ 9573 ∷ 5 ∷ [])
     ∷ see (says atZero (at 1 4 0 0) ++ says atZero (at 1 5 0 0) ++ says atZero (at 1 7 0 0) ++ says atZero (at 1 255 0 0)) (5 ∷ 5 ∷ 5 ∷ 5 ∷ [])
     ∷ []
 
@@ -106,6 +115,8 @@ flushBooks =
     ∷ see (then (forcedFlush 1 0) owes6) (top 6 4 ++ (873741824 ∷ 0 ∷ 59573 ∷ 7 ∷ 40 ∷ 1 ∷ 1 ∷ 7 ∷ 1 ∷ leaf2 ++ leaf3))
     ∷ see (queueNumbers (queueAt (submitted (flush 1 0) (on waits6) .state) 1))
     (7 ∷ 4 ∷ 1 ∷ 2 ∷ 7 ∷ 4 ∷ 5 ∷ 6 ∷ 7 ∷ 8 ∷ 20001 ∷ 20002 ∷ 9573 ∷ 20004 ∷ 20005 ∷ 20006 ∷ 20007 ∷ 20008 ∷ [])
+    -- forced, it fits past those that wait: 11,765 of 30,000
+    ∷ see (then (forcedFlush 1 0) waits6) (top 6 4 ++ (873741824 ∷ 18235 ∷ 0 ∷ 9580 ∷ 40 ∷ 1 ∷ 1 ∷ 7 ∷ 3 ∷ leaf2 ++ leaf3))
     -- a donor's that waits or goes on debt ends the donation: 51,394 of 51,395 are there, 51,394 x 200,000,000 / 536,870,912
     ∷ see (then (flush 2 0) (giving6 51395)) (top 6 4 ++ leaf1 ++ (200000000 ∷ 0 ∷ 0 ∷ 9586 ∷ 16 ∷ 0 ∷ 1 ∷ 3 ∷ 0 ∷ leaf3))
     ∷ see (then (flush 2 0) (giving6 51394))
@@ -122,14 +133,19 @@ flushBooks =
     -- refused for its sector, its flags, or as a read: nothing changes
     ∷ see (then (flush 1 (2 ^ 48 + 1)) saved6 ++ then (at 1 5 0 0) saved6) (top 6 4 ++ leaf1 ++ leaf2 ++ leaf3 ++ top 6 4 ++ leaf1 ++ leaf2 ++ leaf3)
     ∷ see (then (at 1 0 0 0) saved6) (top 6 4 ++ leaf1 ++ leaf2 ++ leaf3)
+    -- 4 at the root, an inner node and one that is not there, and before 5; the leaf below that inner node waits
+    ∷ see (told (flush 0 0) (on saved6) ++ told (flush 4 0) (on saved6) ++ told (forcedFlush 200 (2 ^ 48 + 1)) (on saved6)) (4 ∷ 4 ∷ 4 ∷ [])
+    ∷ see (told (flush 1 0) (fresh (tree7 1023) ssd 0) ++ told (flush 3 0) (fresh (tree7 1023) ssd 0)) (4 ∷ 0 ∷ 87 ∷ [])
     -- 8 where the debt would pass its limit by one, and on debt where it would not
     ∷ see (told (forcedFlush 1 0) (owing6 (2 ^ 40 - 9573)) ++ told (forcedFlush 1 0) (owing6 (2 ^ 40 - 9572))) (0 ∷ 68 ∷ 8 ∷ [])
     -- the next read is sequential by the end that stands, wherever the flush lay, and random where the flush lay
     ∷ see (next 1 40 (flush 1 0) saved6 ∷ next 1 40 (flush 1 1000000) saved6 ∷ next 1 1000000 (flush 1 1000000) saved6 ∷ []) (111958 ∷ 111958 ∷ 117399 ∷ [])
     -- and of a leaf that had none before it is the first: random, also where the flush lay
     ∷ see (next 2 16 (flush 2 16) saved6 ∷ next 2 0 (flush 2 0) saved6 ∷ []) (117399 ∷ 117399 ∷ [])
-    -- any other bio moves the end: a read of 512 bytes at 1,000,000
+    -- any other bio moves the end, and is the first: a read or a write of 512 bytes at 1,000,000, or of leaf 2, and one of 4,096
     ∷ see (next 1 1000000 (at 1 0 1000000 512) saved6 ∷ next 1 40 (at 1 0 1000000 512) saved6 ∷ next 2 0 (at 2 0 0 512) saved6 ∷ []) (111958 ∷ 117399 ∷ 111958 ∷ [])
+    ∷ see (next 1 1000000 (at 1 1 1000000 512) saved6 ∷ next 1 40 (at 1 3 1000000 512) saved6 ∷ next 2 0 (at 2 1 0 512) saved6 ∷ []) (111958 ∷ 117399 ∷ 111958 ∷ [])
+    ∷ see (then (at 1 1 0 4096) saved6) (top 6 4 ++ (873741824 ∷ 357262 ∷ 0 ∷ 34784 ∷ 8 ∷ 1 ∷ 1 ∷ 7 ∷ 0 ∷ leaf2 ++ leaf3))
     -- a leaf whose only bio since the last plan is a flush stays active, and else would not
     ∷ see (planned (submitted (flush 1 0) (on saved6) .state) .state .active ∷ planned (on saved6) .state .active ∷ []) (6 ∷ 4 ∷ [])
     -- the ledger: accepted and issued, accepted alone, and neither; no other leaf counts
@@ -183,16 +199,22 @@ flushing =
     -- three are repaid and eight released, for 105,303 in all
     ∷ tickTo 353805 8 (Released 7) (6 ∷ 9 ∷ 10 ∷ 11 ∷ 12 ∷ 13 ∷ 14 ∷ 0 ∷ [])
     ∷ tickTo 353806 1 (Released 1) (15 ∷ [])
-    -- issued; then a plan to which a flush is all that the leaf did, and one to which it did nothing
+    -- issued; a plan closes all this
     ∷ tickTo 363379 0 (Released 0) []
     ∷ flushed 1 18 0 Issued
     ∷ plans Accepted
+    -- all that the leaf does up to the next plan is a flush, which is issued; up to the one behind it a flush that waits and is
+    -- released; and up to the last it does nothing
     ∷ tickTo 372952 0 (Released 0) []
     ∷ flushed 3 19 0 Issued
-    ∷ plans Accepted
     ∷ tickTo 372953 0 (Released 0) []
     ∷ plans Accepted
     ∷ flushed 1 20 0 Waits
+    ∷ tickTo 382525 1 (Released 1) (20 ∷ [])
+    ∷ plans Accepted
+    ∷ tickTo 382526 0 (Released 0) []
+    ∷ plans Accepted
+    ∷ flushed 1 21 0 Waits
     ∷ []
 
 unfoldable pub flushBegun : Controller
@@ -215,8 +237,9 @@ pub flushes-reach :
     × (stands 11 ≡ 2 ∷ 1073741824 ∷ 0 ∷ 0 ∷ 248503 ∷ 16 ∷ 1 ∷ 1 ∷ 4 ∷ 0 ∷ [])
     × (stands 27 ≡ 2 ∷ 1073741824 ∷ 0 ∷ 28719 ∷ 248503 ∷ 16 ∷ 1 ∷ 1 ∷ 4 ∷ 8 ∷ [])
     × (stands 31 ≡ 2 ∷ 1073741824 ∷ 0 ∷ 0 ∷ 363379 ∷ 16 ∷ 1 ∷ 1 ∷ 4 ∷ 0 ∷ [])
-    × (stands 35 ≡ 2 ∷ 1073741824 ∷ 0 ∷ 0 ∷ 0 ∷ 16 ∷ 1 ∷ 0 ∷ 4 ∷ 0 ∷ [])
-    × (stands 37 ≡ 0 ∷ 0 ∷ 0 ∷ 0 ∷ 0 ∷ 16 ∷ 1 ∷ 0 ∷ 4 ∷ 0 ∷ [])
-    × (stands 38 ≡ 2 ∷ 1073741824 ∷ 0 ∷ 0 ∷ 0 ∷ 16 ∷ 1 ∷ 1 ∷ 4 ∷ 1 ∷ [])
+    × (stands 36 ≡ 2 ∷ 1073741824 ∷ 1 ∷ 0 ∷ 0 ∷ 16 ∷ 1 ∷ 0 ∷ 4 ∷ 0 ∷ [])
+    × (stands 39 ≡ 2 ∷ 1073741824 ∷ 0 ∷ 0 ∷ 0 ∷ 16 ∷ 1 ∷ 0 ∷ 5 ∷ 0 ∷ [])
+    × (stands 41 ≡ 0 ∷ 0 ∷ 0 ∷ 0 ∷ 0 ∷ 16 ∷ 1 ∷ 0 ∷ 5 ∷ 0 ∷ [])
+    × (stands 42 ≡ 2 ∷ 1073741824 ∷ 0 ∷ 0 ∷ 0 ∷ 16 ∷ 1 ∷ 1 ∷ 5 ∷ 1 ∷ [])
 unfolding computed flushing flushBegun
-flushes-reach = (refl, refl, refl, refl, refl, refl, refl, refl)
+flushes-reach = (refl, refl, refl, refl, refl, refl, refl, refl, refl)

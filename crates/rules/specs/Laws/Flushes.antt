@@ -11,7 +11,7 @@ use native.Mathlib.Decide.{ℕ-discrete}
 use borrow.Author.Tests.{eq-eqb, not-false}
 use Rattle.rules.specs.Numbers.{sectorMost, costMost}
 use Rattle.rules.specs.Words.{has}
-use Rattle.rules.specs.Cost.{isWrite, isForced, isFlush, bytesInRange, sectorInRange, flagsInRange, isSequential, endOf, dataCost, costOf}
+use Rattle.rules.specs.Cost.{isWrite, isForced, isFlush, bytesInRange, sectorInRange, flagsInRange, isSequential, endOf, costAt, costOf}
 use Rattle.rules.specs.Tree.{isLeaf}
 use Rattle.rules.specs.Budget.{rowAt, queueAt, shareAt, putLeaf, withAccepted, withEnd, noted, rebased, entered, answerTo, rowAfter, queueAfter, endsDonation, answerIn, applied, settled, wouldBe, submission}
 use Rattle.rules.specs.Plan.{plan}
@@ -54,42 +54,45 @@ pub a-read-of-0-bytes-is-refused : (b : Bio) (c : Controller) → isLeaf (c .tre
 a-read-of-0-bytes-is-refused b c leaf none read =
     refusal-5-exactly-when b c .1 (leaf, λ w. omega (arith, none, no-other-bio-has-new-bytes b (λ f. true-not-false (eq-eqb _ _ (f .write)) read) w .fit .0))
 
-module _ {c : Controller} (s : Sound c) (b : Bio) (f : Flush b) where
-  pub a-flush-is-refused-5-exactly-when : (submitted b c .answer ≡ Declined BadBio)
-      ↔ ((isLeaf (c .tree) (b .node) ≡ true) × (((b .sector ≤ sectorMost) × (b .flags < 4)) → ⊥))
-  a-flush-is-refused-5-exactly-when =
-      let range = a-flush-is-in-range-exactly-when b f in
-      exactly (refusal-5-exactly-when b c) (λ w. (w .0, λ fit. w .1 (range .1 fit)), λ w. (w .0, λ fit. w .1 (range .0 fit)))
+pub a-flush-is-refused-5-exactly-when : (b : Bio) (c : Controller) → Flush b
+    → (submitted b c .answer ≡ Declined BadBio) ↔ ((isLeaf (c .tree) (b .node) ≡ true) × (((b .sector ≤ sectorMost) × (b .flags < 4)) → ⊥))
+a-flush-is-refused-5-exactly-when b c f =
+    let range = a-flush-is-in-range-exactly-when b f in
+    exactly (refusal-5-exactly-when b c) (λ w. (w .0, λ fit. w .1 (range .1 fit)), λ w. (w .0, λ fit. w .1 (range .0 fit)))
 
-  -- 6 can't hold for it: one page costs a second at most
-  pub a-flush-is-never-refused-6 : submitted b c .answer ≡ Declined TooDear → ⊥
-  a-flush-is-never-refused-6 e =
-      let model : SoundModel (c .model) = rw (s .model .same) (priced-sound (s .model .rates) (s .model .valid)) in
-      let dear : costMost < costIn c b .0 = refusal-6-exactly-when b c .0 e .2 in
-      omega (arith, rw (a-flush-costs-one-write-page (c .model) (rowAt c (b .node)) b f) at dear, model .writes .pageMost)
+-- 6 can't hold for it: one page costs a second at most
+pub a-flush-is-never-refused-6 : {c : Controller} → Sound c → (b : Bio) → Flush b → submitted b c .answer ≡ Declined TooDear → ⊥
+a-flush-is-never-refused-6 {c} s b f e =
+    let model : SoundModel (c .model) = rw (s .model .same) (priced-sound (s .model .rates) (s .model .valid)) in
+    let dear : costMost < costIn c b .0 = refusal-6-exactly-when b c .0 e .2 in
+    omega (arith, rw (a-flush-costs-one-write-page (c .model) (rowAt c (b .node)) b f) at dear, model .writes .pageMost)
 
--- ---- what an accepted bio notes of its leaf
-pub any-other-bio-moves-the-end : (b : Bio) (r : Row) → (Flush b → ⊥) → (noted b r .end ≡ endOf b) × (noted b r .begun ≡ true)
-any-other-bio-moves-the-end b r other = rw (is-false (isFlush b) (λ t. other (flush-exactly-when b .0 t))) (refl, refl)
-
--- only the end and whether there was a first bio decide what the next one costs
+-- ---- where each leaf's last bio ended, and whether it had one, behind a bio: only these two decide what the next one costs
 pub cost-by-the-end : (m : Model) (b : Bio) (r r′ : Row) → r′ .end ≡ r .end → r′ .begun ≡ r .begun → costOf m r′ b ≡ costOf m r b
 unfolding costOf isSequential
 cost-by-the-end m b r r′ e f = rw (e, f)
 
+abbrev SameEnd : Row → Row → Type 0
+SameEnd r r′ = (r′ .end ≡ r .end) × (r′ .begun ≡ r .begun)
+
 module _ {c : Controller} (s : Sound c) (b : Bio) where
+  -- no bio, accepted or refused, moves the end of another leaf than its own
+  pub a-bio-leaves-the-ends-of-others : (n : ℕ) → n ≢ b .node → SameEnd (rowAt c n) (rowAt (submitted b c .state) n)
+  a-bio-leaves-the-ends-of-others n e =
+      by-verdict s b (λ a d. SameEnd (rowAt c n) (rowAt d n)) (λ x. (refl, refl))
+      (λ ok. let w = submission-notes s b ok n .elsewhere e in (w .end, w .begun))
+
   -- "it does not move the leaf's last end nor count as its first bio", be it issued, waits, on debt or refused
-  pub a-flush-leaves-every-end : Flush b → (n : ℕ)
-      → (rowAt (submitted b c .state) n .end ≡ rowAt c n .end) × (rowAt (submitted b c .state) n .begun ≡ rowAt c n .begun)
+  pub a-flush-leaves-every-end : Flush b → (n : ℕ) → SameEnd (rowAt c n) (rowAt (submitted b c .state) n)
   a-flush-leaves-every-end f n =
-      by-verdict s b (λ a d. (rowAt d n .end ≡ rowAt c n .end) × (rowAt d n .begun ≡ rowAt c n .begun)) (λ x. (refl, refl)) taken
+      dite (ℕ-discrete n (b .node))
+      (λ (e : n ≡ b .node). by-verdict s b (λ a d. SameEnd (rowAt c n) (rowAt d n)) (λ x. (refl, refl)) (λ ok. own ok e))
+      (λ (e : n ≢ b .node). a-bio-leaves-the-ends-of-others n e)
     where
-      taken : Admitted b c → (rowAt (submission b c .state) n .end ≡ rowAt c n .end) × (rowAt (submission b c .state) n .begun ≡ rowAt c n .begun)
-      taken ok =
-          let w = submission-notes s b ok n in
-          dite (ℕ-discrete n (b .node))
-          (λ (e : n ≡ b .node). (rw (flush-exactly-when b .1 f) at (w .here e .end), rw (flush-exactly-when b .1 f) at (w .here e .begun)))
-          (λ (e : n ≢ b .node). (w .elsewhere e .end, w .elsewhere e .begun))
+      own : Admitted b c → n ≡ b .node → SameEnd (rowAt c n) (rowAt (submission b c .state) n)
+      own ok e =
+          let w = submission-notes s b ok n .here e in
+          (rw (flush-exactly-when b .1 f) at (w .end), rw (flush-exactly-when b .1 f) at (w .begun))
 
   -- so no bio costs more or less for a flush before it, at any leaf
   pub a-flush-changes-no-cost : Flush b → (n : ℕ) (next : Bio) → costOf (c .model) (rowAt (submitted b c .state) n) next ≡ costOf (c .model) (rowAt c n) next
@@ -100,16 +103,24 @@ module _ {c : Controller} (s : Sound c) (b : Bio) where
     unfolding submitted submittedBy
     after-taken = ap (λ (v : Verdict). submittedBy v b c .state) taken
 
+    -- "callers may no longer rely on every accepted bio moving the end": on every other one they may
+    pub any-other-accepted-bio-moves-the-end : (Flush b → ⊥)
+        → (rowAt (submitted b c .state) (b .node) .end ≡ endOf b) × (rowAt (submitted b c .state) (b .node) .begun ≡ true)
+    any-other-accepted-bio-moves-the-end other =
+        let none : isFlush b ≡ false = is-false (isFlush b) (λ t. other (flush-exactly-when b .0 t)) in
+        let w = submission-notes s b (admitted b c taken) (b .node) .here refl in
+        rw after-taken (rw none at (w .end), rw none at (w .begun))
+
     -- "counts as an accepted bio since the last plan": every accepted bio does, a flush too
     pub an-accepted-bio-counts : rowAt (submitted b c .state) (b .node) .accepted ≡ true
     an-accepted-bio-counts = rw after-taken (submission-notes s b (admitted b c taken) (b .node) .here refl .accepted)
 
-    -- it leaves its leaf active, and a plan behind it does not end that
+    -- it leaves its leaf active, and a plan right behind it does not end that
     pub an-accepted-bio-activates : has (submitted b c .state .active) (b .node) ≡ true
     an-accepted-bio-activates = rw after-taken (submission-is-active s b (admitted b c taken))
 
-    pub a-plan-behind-it-leaves-the-leaf-active : has (plan (submitted b c .state) .active) (b .node) ≡ true
-    a-plan-behind-it-leaves-the-leaf-active =
+    pub a-plan-right-behind-it-leaves-the-leaf-active : has (plan (submitted b c .state) .active) (b .node) ≡ true
+    a-plan-right-behind-it-leaves-the-leaf-active =
         is-true (has (plan (submitted b c .state) .active) (b .node))
         (λ out. true-not-false an-accepted-bio-counts
         (a-leaf-goes-inactive-exactly-when (submit-keeps s b) (b .node) an-accepted-bio-activates .0 out .0))
@@ -118,11 +129,14 @@ module _ {c : Controller} (s : Sound c) (b : Bio) where
 abbrev pub rangeBefore : Bio → Bool
 rangeBefore b = bytesInRange (b .bytes) && sectorInRange (b .sector) && flagsInRange (b .flags)
 
+abbrev pub costBefore : Model → Row → Bio → Abs
+costBefore model row b = costAt (cond (isWrite b) (model .write) (model .read)) (isSequential row b) (b .bytes)
+
 abbrev pub costChecksBefore : Model → Row → Bio → List Check
-costChecksBefore model row b = (not (rangeBefore b) ⇒ BadBio) ∷ (ltb costMost (dataCost model row b .0) ⇒ TooDear) ∷ []
+costChecksBefore model row b = (not (rangeBefore b) ⇒ BadBio) ∷ (ltb costMost (costBefore model row b .0) ⇒ TooDear) ∷ []
 
 abbrev costingByBefore : Verdict → Model → Row → Bio → Costing
-costingByBefore Accepted model row b = Costs (dataCost model row b)
+costingByBefore Accepted model row b = Costs (costBefore model row b)
 costingByBefore (Refused x) model row b = Uncosted x
 
 abbrev pub costingBefore : Model → Row → Bio → Costing
@@ -133,11 +147,11 @@ notedBefore b r = withAccepted true (withEnd (endOf b) true r)
 
 abbrev answerInBefore : Controller → Bio → Answer
 answerInBefore c b =
-    answerTo (isForced b) (dataCost (c .model) (rowAt c (b .node)) b) (shareAt c (b .node)) (rowAt c (b .node)) (queueAt c (b .node))
+    answerTo (isForced b) (costBefore (c .model) (rowAt c (b .node)) b) (shareAt c (b .node)) (rowAt c (b .node)) (queueAt c (b .node))
 
 abbrev appliedBefore : Answer → Bio → Controller → Controller
 appliedBefore answer b c =
-    let cost : Abs = dataCost (c .model) (rowAt c (b .node)) b in
+    let cost : Abs = costBefore (c .model) (rowAt c (b .node)) b in
     putLeaf (b .node)
     (notedBefore b (rowAfter answer cost (shareAt c (b .node)) (rowAt c (b .node))))
     (queueAfter answer (b .id) cost (queueAt c (b .node)))
@@ -154,7 +168,7 @@ abbrev pub submitChecksBefore : Bio → Controller → List Check
 submitChecksBefore b c =
     (not (isLeaf (c .tree) (b .node)) ⇒ NoLeaf)
     ∷ costChecksBefore (c .model) (rowAt c (b .node)) b
-    ++ roomChecks (wouldBeBefore c b) (dataCost (c .model) (rowAt c (b .node)) b) (rowAt c (b .node)) (queueAt c (b .node))
+    ++ roomChecks (wouldBeBefore c b) (costBefore (c .model) (rowAt c (b .node)) b) (rowAt c (b .node)) (queueAt c (b .node))
 
 abbrev pub submittedByBefore : Verdict → Bio → Controller → Submitted
 submittedByBefore Accepted b c =
@@ -172,7 +186,7 @@ what-was-in-range-is-no-flush b e =
 
 -- of every bio but a flush, be it accepted or refused, they say what is said now: the cost, what is noted, the answer and the state
 module _ (b : Bio) (other : isFlush b ≡ false) where
-  pub the-cost-is-as-before : (m : Model) (row : Row) → costOf m row b ≡ dataCost m row b
+  pub the-cost-is-as-before : (m : Model) (row : Row) → costOf m row b ≡ costBefore m row b
   unfolding costOf
   the-cost-is-as-before m row = rw other
 
@@ -209,7 +223,7 @@ module _ (b : Bio) (other : isFlush b ≡ false) where
 
 -- so for every bio that the old rules accepted, the new cost, end and answer are the old ones
 pub what-was-accepted-is-as-before : (b : Bio) (c : Controller) → firstOf (submitChecksBefore b c) ≡ Accepted
-    → (costIn c b ≡ dataCost (c .model) (rowAt c (b .node)) b) × ((r : Row) → noted b r ≡ notedBefore b r) × (submitted b c ≡ submittedBefore b c)
+    → (costIn c b ≡ costBefore (c .model) (rowAt c (b .node)) b) × ((r : Row) → noted b r ≡ notedBefore b r) × (submitted b c ≡ submittedBefore b c)
 what-was-accepted-is-as-before b c e =
     let other = what-was-in-range-is-no-flush b (not-false (rangeBefore b) (accepted-exactly-when (submitChecksBefore b c) .0 e .1 .0)) in
     (the-cost-is-as-before b other (c .model) (rowAt c (b .node)), what-is-noted-is-as-before b other, all-else-is-as-before b other c)

@@ -8,7 +8,7 @@ use Rattle.rules.specs.Cost.{isFlush, endOf}
 use Rattle.rules.specs.Budget.{withAccepted, noted}
 use Rattle.rules.specs.declared.cost.Bio.{Bio}
 use Rattle.rules.specs.declared.budget.Row.{Row}
-use Rattle.leaf.specs.Alone.{notedAt}
+use Rattle.leaf.specs.Alone.{endedAt}
 use Rattle.submit.proofs.noted.Statement.{statement}
 use Rattle.submit.proofs.noted.Tie as tie
 
@@ -16,7 +16,7 @@ module _ (b : Bio) (row : Row) where
   only-counted : {last : Row} → isFlush b ≡ true → last ≡ withAccepted true row → last ≡ noted b row
   only-counted f e = rw f e
 
-  moved : {end : ℕ} {last : Row} → isFlush b ≡ false → end ≡ endOf b → last ≡ notedAt end row → last ≡ noted b row
+  moved : {end : ℕ} {last : Row} → isFlush b ≡ false → end ≡ endOf b → last ≡ endedAt end row → last ≡ noted b row
   moved f n e = rw (f, ← n) e
 
 is-flush-requires : tie.Need-is-flush-requires
@@ -28,8 +28,8 @@ counted-requires c κs = search needs
 end-of-requires : tie.Need-end-of-requires
 end-of-requires c κs = search needs
 
-noted-requires : tie.Need-noted-requires
-noted-requires c κs = search needs
+ended-requires : tie.Need-ended-requires
+ended-requires c κs = search needs
 
 returns : tie.Need-returns
 returns c =
@@ -38,10 +38,10 @@ returns c =
 
 returns-2 : tie.Need-returns-2
 returns-2 c =
-    let ended = c .before in
-    let told = ended .before .before in
-    moved (told .before .args .bio) (told .before .args .row) (sym (told .is-flush .ensures) ∙ ended .before .if1 .left) (ended .end-of .ensures)
-    (c .noted .ensures)
+    let here = c .before in
+    let told = here .before .before in
+    moved (told .before .args .bio) (told .before .args .row) (sym (told .is-flush .ensures) ∙ here .before .if1 .left) (here .end-of .ensures)
+    (c .ended .ensures)
 
 pub noted-spec : {M : Type 1} → statement M
 noted-spec =
@@ -50,6 +50,6 @@ noted-spec =
     is-flush-requires
     counted-requires
     end-of-requires
-    noted-requires
+    ended-requires
     returns
     returns-2)

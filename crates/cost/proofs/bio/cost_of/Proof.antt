@@ -32,8 +32,8 @@ module _ (m : Model) (row : Row) (b : Bio) where
 in-range-requires : tie.Need-in-range-requires
 in-range-requires c κs = search needs
 
-cost-in-range-requires : tie.Need-cost-in-range-requires
-cost-in-range-requires c κs =
+cost-by-rule-requires : tie.Need-cost-by-rule-requires
+cost-by-rule-requires c κs =
     let start = c .before .before in
     let range = bio-in-range (start .args .bio) .0 (sym (c .before .in-range .ensures) ∙ c .if1 .taken) in
     (start .pre, bytes-most (start .args .bio) range)
@@ -41,17 +41,17 @@ cost-in-range-requires c κs =
 returns : tie.Need-returns
 returns c =
     let costed = c .before .before in
-    let e = affordable _ _ _ _ (sym (costed .before .before .in-range .ensures) ∙ costed .before .if1 .taken) (costed .cost-in-range .ensures) (c .if2 .taken) in
+    let e = affordable _ _ _ _ (sym (costed .before .before .in-range .ensures) ∙ costed .before .if1 .taken) (costed .cost-by-rule .ensures) (c .if2 .taken) in
     (e, cost-on-paper _ _ _ e)
 
 returns-2 : tie.Need-returns-2
 returns-2 c =
     let costed = c .before .before in
-    let e = dear _ _ _ _ (sym (costed .before .before .in-range .ensures) ∙ costed .before .if1 .taken) (costed .cost-in-range .ensures) (c .if2 .left) in
+    let e = dear _ _ _ _ (sym (costed .before .before .in-range .ensures) ∙ costed .before .if1 .taken) (costed .cost-by-rule .ensures) (c .if2 .left) in
     (e, cost-on-paper _ _ _ e)
 
 returns-3 : tie.Need-returns-3
 returns-3 c = let e = bad _ _ _ (sym (c .before .in-range .ensures) ∙ c .if1 .left) in (e, cost-on-paper _ _ _ e)
 
 pub cost-of-spec : {M : Type 1} → statement M
-cost-of-spec = tie.close (tie.spec in-range-requires cost-in-range-requires returns returns-2 returns-3)
+cost-of-spec = tie.close (tie.spec in-range-requires cost-by-rule-requires returns returns-2 returns-3)

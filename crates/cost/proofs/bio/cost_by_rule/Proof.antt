@@ -1,4 +1,4 @@
--- `cost::bio::cost_in_range` meets its contract: each arm is that of the rule's test, and the callees find what the rule asks.
+-- `cost::bio::cost_by_rule` meets its contract: each arm is that of the rule's test, and the callees find what the rule asks.
 -- Assumes nothing.
 use borrow.Author.Needs.{needs}
 use mathlib.Core.Path.{_≡_, sym, _∙_}
@@ -10,8 +10,8 @@ use Rattle.rules.specs.declared.cost.Price.{Price}
 use Rattle.rules.specs.declared.cost.Model.{Model}
 use Rattle.rules.specs.declared.cost.Bio.{Bio}
 use Rattle.rules.specs.declared.budget.Row.{Row}
-use Rattle.cost.proofs.bio.cost_in_range.Statement.{statement}
-use Rattle.cost.proofs.bio.cost_in_range.Tie as tie
+use Rattle.cost.proofs.bio.cost_by_rule.Statement.{statement}
+use Rattle.cost.proofs.bio.cost_by_rule.Tie as tie
 
 module _ (m : Model) (row : Row) (b : Bio) where
   flushed : isFlush b ≡ true → m .write .page ≡ costOf m row b
@@ -49,8 +49,8 @@ returns-2 c =
     found _ _ _ _ _ _ (sym (priced .before .before .is-flush .ensures) ∙ priced .before .if1 .left)
     (priced .price-for .ensures) (c .before .is-sequential .ensures) (c .cost-at .ensures)
 
-pub cost-in-range-spec : {M : Type 1} → statement M
-cost-in-range-spec =
+pub cost-by-rule-spec : {M : Type 1} → statement M
+cost-by-rule-spec =
     tie.close
     (tie.spec
     is-flush-requires
