@@ -14,15 +14,13 @@ use Rattle.rules.specs.Words.{has}
 use Rattle.rules.specs.Cost.{isWrite, isForced, isFlush, bytesInRange, sectorInRange, flagsInRange, isSequential, endOf, costAt, costOf}
 use Rattle.rules.specs.Tree.{isLeaf}
 use Rattle.rules.specs.Budget.{rowAt, queueAt, shareAt, putLeaf, withAccepted, withEnd, noted, rebased, entered, answerTo, rowAfter, queueAfter, endsDonation, answerIn, applied, settled, wouldBe, submission}
-use Rattle.rules.specs.Plan.{plan}
 use Rattle.rules.specs.Refusals.{Check, _⇒_, firstOf, costChecks, roomChecks, submitChecks}
 use Rattle.rules.specs.Entries.{costingBy, costing, submittedBy, submitted}
 use Rattle.rules.specs.Invariant.{Sound, SoundModel}
 use Rattle.rules.specs.Laws.Bools.{true-not-false, is-true, is-false, and-left, exactly}
 use Rattle.rules.specs.Laws.Costs.{Flush, BioInRange, flush-exactly-when, bytes-in-range, no-other-bio-has-new-bytes, priced-sound}
-use Rattle.rules.specs.Laws.Submits.{costIn, Admitted, admitted, submission-notes, submission-is-active, by-verdict, submit-keeps}
+use Rattle.rules.specs.Laws.Submits.{costIn, Admitted, admitted, submission-notes, submission-is-active, by-verdict}
 use Rattle.rules.specs.Laws.Verdicts.{accepted-exactly-when}
-use Rattle.rules.specs.Laws.Plans.{a-leaf-goes-inactive-exactly-when}
 use Rattle.rules.specs.Laws.Refused.{refusal-5-exactly-when, refusal-6-exactly-when}
 use Rattle.rules.specs.declared.units.Abs.{Abs}
 use Rattle.rules.specs.declared.cost.Model.{Model}
@@ -115,15 +113,9 @@ module _ {c : Controller} (s : Sound c) (b : Bio) where
     pub an-accepted-bio-counts : rowAt (submitted b c .state) (b .node) .accepted ≡ true
     an-accepted-bio-counts = rw after-taken (submission-notes s b (admitted b c taken) (b .node) .here refl .accepted)
 
-    -- it leaves its leaf active, and a plan right behind it does not end that
+    -- and leaves its leaf active; up to the next plan both stay so (Demand3/Plans)
     pub an-accepted-bio-activates : has (submitted b c .state .active) (b .node) ≡ true
     an-accepted-bio-activates = rw after-taken (submission-is-active s b (admitted b c taken))
-
-    pub a-plan-right-behind-it-leaves-the-leaf-active : has (plan (submitted b c .state) .active) (b .node) ≡ true
-    a-plan-right-behind-it-leaves-the-leaf-active =
-        is-true (has (plan (submitted b c .state) .active) (b .node))
-        (λ out. true-not-false an-accepted-bio-counts
-        (a-leaf-goes-inactive-exactly-when (submit-keeps s b) (b .node) an-accepted-bio-activates .0 out .0))
 
 -- ---- "The cost rule for all else is as before": the rules without request Four, as document 01 has them
 abbrev pub rangeBefore : Bio → Bool

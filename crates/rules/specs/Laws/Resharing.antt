@@ -428,3 +428,17 @@ module _ {c : Controller} (s : Sound c) (n : ℕ) where
       go : (b : Bool) → has (c .active) n ≡ b → has (cond b c (activated n c) .active) n ≡ true
       go true e = e
       go false e = rw (activated-is n c (s .idle n e .no-budget), active-of-rebased (activeWith n c) c) joined
+
+  -- and no other leaf goes inactive by it
+  pub entering-leaves-all-active : (k : ℕ) → has (c .active) k ≡ true → has (entered n c .active) k ≡ true
+  unfolding entered
+  entering-leaves-all-active k a = go (has (c .active) n) refl
+    where
+      joined : has (activeWith n c) k ≡ true
+      joined =
+          has-setOf (λ j. has (c .active) j || eqb j n) k (active-node (s .tree) (c .active) (s .active) k a)
+          ∙ or-left (has (c .active) k) (eqb k n) a
+
+      go : (b : Bool) → has (c .active) n ≡ b → has (cond b c (activated n c) .active) k ≡ true
+      go true e = a
+      go false e = rw (activated-is n c (s .idle n e .no-budget), active-of-rebased (activeWith n c) c) joined

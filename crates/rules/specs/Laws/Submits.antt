@@ -29,7 +29,7 @@ use Rattle.rules.specs.Laws.Queues.{pushed-sound, pushed-waiting}
 use Rattle.rules.specs.Laws.Rows.{fitting-charge-pays, charge-keeps, owing-keeps, noted-keeps}
 use Rattle.rules.specs.Laws.Answers.{issued-fits}
 use Rattle.rules.specs.Laws.Verdicts.{accepted-exactly-when}
-use Rattle.rules.specs.Laws.Resharing.{FreeLeaf, SoundRoles, SoundBooks, shares-of, roles-of, books-of, sound-of, active-node, rebasing-keeps, Reweighed, reweighed-itself, rebasing-reweighs, active-of-rebased, entering-keeps, entering-reweighs, entered-is-active}
+use Rattle.rules.specs.Laws.Resharing.{FreeLeaf, SoundRoles, SoundBooks, shares-of, roles-of, books-of, sound-of, active-node, rebasing-keeps, Reweighed, reweighed-itself, rebasing-reweighs, active-of-rebased, entering-keeps, entering-reweighs, entered-is-active, entering-leaves-all-active}
 use Rattle.rules.specs.declared.units.Abs.{Abs}
 use Rattle.rules.specs.declared.cost.Model.{Model}
 use Rattle.rules.specs.declared.cost.Bio.{Bio}
@@ -446,7 +446,11 @@ module _ {c : Controller} (s : Sound c) (b : Bio) (ok : Admitted b c) where
       notes-between (reweighed-marks same j) (applied-notes there b (wouldBe c b) on kept j)
       (reweighed-marks (settling-reweighs there b (wouldBe c b) on kept) j)
 
-  -- an accepted bio's leaf is active
+  -- an accepted bio's leaf is active, and so is each that was
+  pub submission-leaves-all-active : (n : ℕ) → has (c .active) n ≡ true → has (submission b c .state .active) n ≡ true
+  unfolding submission wouldBe
+  submission-leaves-all-active n a = rw (settled-active there b (wouldBe c b) on kept) (entering-leaves-all-active s (b .node) n a)
+
   pub submission-is-active : has (submission b c .state .active) (b .node) ≡ true
   unfolding submission wouldBe
   submission-is-active = rw (settled-active there b (wouldBe c b) on kept) on
