@@ -142,9 +142,11 @@ flushBooks =
     ∷ see (next 1 40 (flush 1 0) saved6 ∷ next 1 40 (flush 1 1000000) saved6 ∷ next 1 1000000 (flush 1 1000000) saved6 ∷ []) (111958 ∷ 111958 ∷ 117399 ∷ [])
     -- and of a leaf that had none before it is the first: random, also where the flush lay
     ∷ see (next 2 16 (flush 2 16) saved6 ∷ next 2 0 (flush 2 0) saved6 ∷ []) (117399 ∷ 117399 ∷ [])
-    -- any other bio moves the end, and is the first: a read or a write of 512 bytes at 1,000,000, or of leaf 2, and one of 4,096
+    -- any other bio moves the end, and is the first: a read or a write of 512 bytes at 1,000,000, or of leaf 2, forced or not, and one
+    -- of 4,096
     ∷ see (next 1 1000000 (at 1 0 1000000 512) saved6 ∷ next 1 40 (at 1 0 1000000 512) saved6 ∷ next 2 0 (at 2 0 0 512) saved6 ∷ []) (111958 ∷ 117399 ∷ 111958 ∷ [])
     ∷ see (next 1 1000000 (at 1 1 1000000 512) saved6 ∷ next 1 40 (at 1 3 1000000 512) saved6 ∷ next 2 0 (at 2 1 0 512) saved6 ∷ []) (111958 ∷ 117399 ∷ 111958 ∷ [])
+    ∷ see (next 1 1000000 (at 1 2 1000000 512) saved6 ∷ next 2 0 (at 2 2 0 512) saved6 ∷ next 2 0 (at 2 3 0 512) saved6 ∷ []) (111958 ∷ 111958 ∷ 111958 ∷ [])
     ∷ see (then (at 1 1 0 4096) saved6) (top 6 4 ++ (873741824 ∷ 357262 ∷ 0 ∷ 34784 ∷ 8 ∷ 1 ∷ 1 ∷ 7 ∷ 0 ∷ leaf2 ++ leaf3))
     -- a leaf whose only bio since the last plan is a flush stays active, and else would not
     ∷ see (planned (submitted (flush 1 0) (on saved6) .state) .state .active ∷ planned (on saved6) .state .active ∷ []) (6 ∷ 4 ∷ [])
