@@ -102,14 +102,6 @@ module _ (count : ℕ) (ps ws : List ℕ) {nodes : ℕ} (lit : Lit (treeOf count
 pub root-share : (t : Tree) (nodes n : ℕ) → n ≡ 0 → WHOLE ≡ shareAmong t nodes n
 root-share t nodes n e = sym (ap (shareAmong t nodes) e ∙ share-root t (leavesIn t nodes))
 
--- what is kept of a node p for its active children: its share, and the sum of their weights
-pub record Kept (t : Tree) (nodes p above sum : ℕ) : Type 0 where
-  pub share : above ≡ shareAmong t nodes p
-  pub weights : sum ≡ childSumIn t nodes p
-
-pub still-kept : {t : Tree} {nodes p q above sum x y : ℕ} → Kept t nodes p above sum → q ≡ p → x ≡ above → y ≡ sum → Kept t nodes q x y
-still-kept k e f g = rw (e, f, g) k
-
 -- an active node n below the root, with its parent q
 pub record Child (count : ℕ) (ps ws : List ℕ) (nodes n q : ℕ) : Type 0 where
   pub lit : Lit (treeOf count ps ws) nodes

@@ -34,64 +34,74 @@ module _ {t : Tree} (sound : SoundTree t) (active : ℕ) (within : Within t acti
   pub leaf-asks : n < nodesMost → Lit t nodes × (has nodes n ≡ true)
   leaf-asks l = (lit-here sound active within fits all, rw all (has-setOf (isActive t active) n l ∙ is-active))
 
-  pub leaf-child : n < nodesMost → {q : ℕ} → q ≡ getD (t .parents) n 0 → Child (t .count) (t .parents) (t .weights) nodes n q
-  leaf-child l e = record {
-    lit = leaf-asks l .0;
-    on = leaf-asks l .1;
-    below = λ z. omega (arith, leaf-pos t n (within n on));
-    is = e;
-  }
-
   pub leaf-share : {r : ℕ} → r ≡ shareOf t (leavesIn t nodes) n → r ≡ shareOf t active n
   leaf-share e = rw (leaves-back sound active within fits all) at e
 
   pub leaf-share-most : {r : ℕ} → r ≡ shareOf t (leavesIn t nodes) n → r ≤ WHOLE
   leaf-share-most e = rw (leaf-share e) (share-le sound active n (leaf-last t n (within n on)) is-active)
 
--- ---- the table of base shares, in which the leaves that are left have none yet
-unfoldable pub spread : Tree → ℕ → ℕ → ℕ → ℕ
-spread t active left n = cond (has left n) 0 (baseShare t active n)
+-- ---- a table of the active leaves alone, in which those that are left have nothing yet
+unfoldable pub spread : (ℕ → ℕ) → ℕ → ℕ → ℕ → ℕ
+spread f active left n = cond (has left n) 0 (cond (has active n) (f n) 0)
 
-pub spread-starts : (t : Tree) (active : ℕ) → replicate nodesMost 0 ≡ table (spread t active active)
-unfolding spread baseShare
-spread-starts t active =
-    ext-getD 0 (replicate nodesMost 0) (table (spread t active active))
-    (length-replicate {A = ℕ} nodesMost 0 ∙ sym (table-length (spread t active active)))
+pub spread-starts : (f : ℕ → ℕ) (active : ℕ) → replicate nodesMost 0 ≡ table (spread f active active)
+unfolding spread
+spread-starts f active =
+    ext-getD 0 (replicate nodesMost 0) (table (spread f active active))
+    (length-replicate {A = ℕ} nodesMost 0 ∙ sym (table-length (spread f active active)))
     (λ n l.
     let m : n < nodesMost = omega (arith, length-replicate {A = ℕ} nodesMost 0) in
-    getD-replicate nodesMost n 0 0 m ∙ sym (table-at (spread t active active) n 0 m ∙ go (has active n) (shareOf t active n)))
+    getD-replicate nodesMost n 0 0 m ∙ sym (table-at (spread f active active) n 0 m ∙ go (has active n) (f n)))
   where
     go : (b : Bool) (x : ℕ) → cond b 0 (cond b x 0) ≡ 0
     go true x = refl
     go false x = refl
 
-pub spread-ends : (t : Tree) (active : ℕ) {left : ℕ} → left ≡ 0 → {shares : List ℕ} → shares ≡ table (spread t active left)
-    → shares ≡ baseShares t active
-unfolding spread baseShares
-spread-ends t active e s = s ∙ table-cong (spread t active _) (baseShare t active) (λ n l. rw (e, has-none n))
+-- with no leaf left it is the table of base shares
+pub spread-ends : (t : Tree) (active : ℕ) {f : ℕ → ℕ} → ((n : ℕ) → has active n ≡ true → f n ≡ shareOf t active n)
+    → {left : ℕ} → left ≡ 0 → {shares : List ℕ} → shares ≡ table (spread f active left) → shares ≡ baseShares t active
+unfolding spread baseShares baseShare
+spread-ends t active {f} same e s =
+    s ∙ table-cong (spread f active _) (baseShare t active) (λ n l. rw (e, has-none n) (go n (has active n) refl))
+  where
+    go : (n : ℕ) (b : Bool) → has active n ≡ b → cond b (f n) 0 ≡ cond b (shareOf t active n) 0
+    go n true on = same n on
+    go n false off = refl
 
-module _ (t : Tree) {active left n out : ℕ} (l : LeftOf active left) (low : Lowest left n)
+module _ (f : ℕ → ℕ) {active left n out : ℕ} (l : LeftOf active left) (low : Lowest left n)
     (o : out ≡ setOf (λ k. has left k && not (eqb k n))) where
-  pub spread-next : {shares : List ℕ} {x : ℕ} → shares ≡ table (spread t active left) → x ≡ shareOf t active n
-      → set shares n x ≡ table (spread t active out)
+  pub spread-next : {shares : List ℕ} → shares ≡ table (spread f active left) → set shares n (f n) ≡ table (spread f active out)
   unfolding spread
-  spread-next {shares} {x} s e =
+  spread-next {shares} s =
       rw s
-      (table-set (spread t active left) n x (low .node)
-      ∙ table-cong (λ k. cond (eqb k n) x (spread t active left k)) (spread t active out) (λ k m. go k m (eqb k n) refl))
+      (table-set (spread f active left) n (f n) (low .node)
+      ∙ table-cong (λ k. cond (eqb k n) (f n) (spread f active left k)) (spread f active out) (λ k m. go k m (eqb k n) refl))
     where
-      go : (k : ℕ) → k < nodesMost → (b : Bool) → eqb k n ≡ b → cond b x (spread t active left k) ≡ spread t active out k
+      go : (k : ℕ) → k < nodesMost → (b : Bool) → eqb k n ≡ b → cond b (f n) (spread f active left k) ≡ spread f active out k
       go k m true i =
           let j : k ≡ n = eqb-true k n i in
           let gone : has out k ≡ false = rw o (remove-here left n k m j) in
-          e ∙ rw (gone, j) (sym (base-share-is t active n (l .from n (low .here))))
+          rw (gone, j, l .from n (low .here))
       go k m false i =
           let same : has out k ≡ has left k = rw o (remove-others left n k m (eqb-false k n i)) in
           rw same
 
 -- ---- no leaf that has been passed is below the floor
-abbrev pub Fair : Tree → ℕ → ℕ → Type 0
-Fair t all left = (n : ℕ) → has all n ≡ true → has left n ≡ false → shareFloor ≤ shareOf t all n
+abbrev pub Fair : (ℕ → ℕ) → ℕ → ℕ → Type 0
+Fair f all left = (n : ℕ) → has all n ≡ true → has left n ≡ false → shareFloor ≤ f n
+
+pub fair-starts : (f : ℕ → ℕ) (all : ℕ) → Fair f all all
+fair-starts f all n e g = absurd (true-not-false e g)
+
+pub fair-next : (f : ℕ → ℕ) {all left n out : ℕ} → all < 2 ^ nodesMost → Lowest left n → out ≡ setOf (λ k. has left k && not (eqb k n))
+    → shareFloor ≤ f n → Fair f all left → Fair f all out
+fair-next f {all} {left} {n} {out} fits low o enough fair k on gone = go (eqb k n) refl
+  where
+    go : (b : Bool) → eqb k n ≡ b → shareFloor ≤ f k
+    go true i = let j : k ≡ n = eqb-true k n i in rw j enough
+    go false i =
+        let same : has out k ≡ has left k = rw o (remove-others left n k (has-node all k fits on) (eqb-false k n i)) in
+        fair k on (sym same ∙ gone)
 
 module _ (t : Tree) {all : ℕ} (a : all ≡ leavesOf t) where
   pub leaves-only : Within t all
@@ -100,20 +110,6 @@ module _ (t : Tree) {all : ℕ} (a : all ≡ leavesOf t) where
   pub leaves-fit : all < 2 ^ nodesMost
   unfolding leavesOf
   leaves-fit = rw a (setOf-fits (isLeaf t))
-
-  pub fair-starts : Fair t all all
-  fair-starts n e f = absurd (true-not-false e f)
-
-  pub fair-next : {left n out : ℕ} → Lowest left n → out ≡ setOf (λ k. has left k && not (eqb k n)) → {r : ℕ} → r ≡ shareOf t all n
-      → shareFloor ≤ r → Fair t all left → Fair t all out
-  fair-next {left} {n} {out} low o {r} e f fair k on gone = go (eqb k n) refl
-    where
-      go : (b : Bool) → eqb k n ≡ b → shareFloor ≤ shareOf t all k
-      go true i = let j : k ≡ n = eqb-true k n i in rw (j, ← e) f
-      go false i =
-          let same : has out k ≡ has left k =
-          rw o (remove-others left n k (has-node all k leaves-fit on) (eqb-false k n i)) in
-          fair k on (sym same ∙ gone)
 
   pub thin-found : (n : ℕ) → has all n ≡ true → {r : ℕ} → r ≡ shareOf t all n → r < shareFloor → true ≡ isThin t
   unfolding isThin
@@ -124,7 +120,7 @@ module _ (t : Tree) {all : ℕ} (a : all ≡ leavesOf t) where
       (any-in (λ k. isLeaf t k && ltb (shareOf t (leavesOf t) k) shareFloor) n (last t) (leaf-pos t n leaf) (leaf-last t n leaf)
       (and-both (isLeaf t n) (ltb (shareOf t (leavesOf t) n) shareFloor) leaf (lt-ltb (shareOf t (leavesOf t) n) shareFloor low)))
 
-  pub none-thin : SoundTree t → {left : ℕ} → left ≡ 0 → Fair t all left → false ≡ isThin t
+  pub none-thin : SoundTree t → {left : ℕ} → left ≡ 0 → Fair (shareOf t all) all left → false ≡ isThin t
   unfolding isThin
   none-thin sound {left} z fair =
       sym (none-any (λ k. isLeaf t k && ltb (shareOf t (leavesOf t) k) shareFloor) (last t) (λ n p q. go n (isLeaf t n) refl))

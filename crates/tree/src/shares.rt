@@ -1,7 +1,8 @@
 // Base shares: what each active leaf of a sound tree is worth, and whether a tree is so thin that some leaf could starve.
 ghost use mathlib.Core.Path.{_≡_};
 ghost use mathlib.Core.Bool.{true};
-ghost use Prim.Native.Nat.{_*_, _^_, _<_};
+ghost use Prim.Native.Nat.{ℕ, _*_, _^_, _<_};
+ghost use lib.ListN.{getD};
 ghost use Rattle.rules.specs.Units.{FLOOR};
 ghost use Rattle.rules.specs.Words.{has as member};
 ghost use Rattle.rules.specs.Tree.{baseShares, isThin};
@@ -69,6 +70,55 @@ fn share_of<'a>(
     portion(above, heavy(weights[node]), sum)
 }
 
+// The sums of the weights of all nodes' active children, in one walk from the last node down.
+fn child_sums<'a>(
+    parents: &'a [u8; 64],
+    weights: &'a [u16; 64],
+    count: usize,
+    nodes: u64,
+) -> [u64; 64]
+    requires { ⌜ Lit (treeOf count (now parents) (now weights)) nodes ⌝ }
+    ensures { λ r. ⌜ ((p : ℕ) → p < 64 → getD r p 0 ≡ childSumIn (treeOf count (now (parents .entry)) (now (weights .entry))) nodes p) ⌝ }
+{
+    let mut sums = [0u64; 64];
+    let mut node = count;
+    while 1 < node {
+        node -= 1;
+        if has(nodes, node) {
+            let parent = wide(parents[node]);
+            sums[parent] = sums[parent] + heavy(weights[node]);
+        }
+    }
+    sums
+}
+
+// The shares of all active nodes, in one pass by rising number: a parent's number is smaller, so its share is there when
+// a child asks for it. Places of other nodes mean nothing.
+fn node_shares<'a>(
+    parents: &'a [u8; 64],
+    weights: &'a [u16; 64],
+    count: usize,
+    nodes: u64,
+) -> [u64; 64]
+    requires { ⌜ Lit (treeOf count (now parents) (now weights)) nodes ⌝ }
+    ensures { λ r. ⌜ ((n : ℕ) → member nodes n ≡ true → getD r n 0 ≡ shareAmong (treeOf count (now (parents .entry)) (now (weights .entry))) nodes n) ⌝ }
+{
+    let sums = child_sums(parents, weights, count, nodes);
+    let mut all = [0u64; 64];
+    all[0] = Controller::WHOLE;
+    let mut node: usize = 1;
+    while node < count {
+        if has(nodes, node) {
+            let parent = wide(parents[node]);
+            let above = all[parent];
+            let sum = sums[parent];
+            all[node] = portion(above, heavy(weights[node]), sum);
+        }
+        node += 1;
+    }
+    all
+}
+
 // The base share of each active leaf; every other place is 0.
 pub fn base_shares(tree: Tree, active: u64) -> [u32; 64]
     requires { ⌜ SoundTree tree × Within tree active ⌝ }
@@ -76,22 +126,12 @@ pub fn base_shares(tree: Tree, active: u64) -> [u32; 64]
 {
     let count = tree.count;
     let nodes = active_nodes(&tree.parents, count, active);
+    let all = node_shares(&tree.parents, &tree.weights, count, nodes);
     let mut shares = [0u32; 64];
     let mut left = active;
-    // Leaves that follow each other often have one parent: its share and the sum over its active children are kept, and
-    // worked out anew only where the parent changes. The first that is kept is the root.
-    let mut parent: usize = 0;
-    let mut above = Controller::WHOLE;
-    let mut sum = child_sum(&tree.parents, &tree.weights, count, nodes, parent);
     while left != 0 {
         let leaf = lowest(left);
-        let over = wide(tree.parents[leaf]);
-        if over != parent {
-            parent = over;
-            above = share_of(&tree.parents, &tree.weights, count, nodes, parent);
-            sum = child_sum(&tree.parents, &tree.weights, count, nodes, parent);
-        }
-        shares[leaf] = portion(above, heavy(tree.weights[leaf]), sum) as u32;
+        shares[leaf] = all[leaf] as u32;
         left = remove(left, leaf);
     }
     shares

@@ -17,7 +17,7 @@ use Rattle.tree.proofs.shares.thin.Statement.{statement}
 use Rattle.tree.proofs.shares.thin.Tie as tie
 
 abbrev Inv-loop : tie.InvT-loop
-Inv-loop tree count all nodes left₀ left = LeftOf all left × Fair tree all left
+Inv-loop tree count all nodes left₀ left = LeftOf all left × Fair (shareOf tree all) all left
 
 abbrev μ-loop : tie.MeasureT-loop
 μ-loop tree count all nodes left₀ left = left
@@ -67,7 +67,7 @@ loop-holds c =
     let at = c .before .before .before in
     let t = at .before .before .before .args .t1 in
     let e : at .leaves-in .result ≡ leavesOf t = at .leaves-in .ensures (t .weights) in
-    (all-left (at .leaves-in .result) (leaves-fit t e), fair-starts t e)
+    (all-left (at .leaves-in .result) (leaves-fit t e), fair-starts (shareOf t (at .leaves-in .result)) (at .leaves-in .result))
 
 lowest-requires : tie.Need-lowest-requires Inv-loop μ-loop
 lowest-requires c κs = search needs
@@ -95,8 +95,8 @@ loop-again c =
     let w = c .before .before .before .before .before .before in
     let l = w .before .before in (
       visited (l .loop .inv .0) (w .lowest .ensures) (c .remove .ensures),
-      fair-next (tree l) (all-leaves l) (w .lowest .ensures) (c .remove .ensures)
-          (share l (w .lowest .ensures) (c .before .before .share-of .ensures)) (omega arith) (l .loop .inv .1),
+      fair-next (shareOf (tree l) (all l)) (leaves-fit (tree l) (all-leaves l)) (w .lowest .ensures) (c .remove .ensures)
+          (rw (← share l (w .lowest .ensures) (c .before .before .share-of .ensures)) (omega arith)) (l .loop .inv .1),
     )
 
 returns-2 : tie.Need-returns-2 Inv-loop μ-loop
