@@ -130,6 +130,9 @@ module _ {count : ℕ} {ps ws : List ℕ} {nodes n q : ℕ} (c : Child count ps 
       let u : q < n = rw is-parent at (c .lit .sound .up n pos in-tree) in
       (omega arith, (c .lit, parent-on))
 
+  pub parent-inside : q < nodesMost
+  parent-inside = omega (arith, parent-asks refl .0, lit-small (c .lit) n (c .on))
+
   pub share-fits : {above w : ℕ} → above ≡ shareAmong T nodes q → w < 65536 → above * w < 2 ^ 64
   share-fits {above} {w} s l =
       let le : above ≤ WHOLE = rw s (share-le (c .lit .sound) (leavesIn T nodes) q (lit-last (c .lit) q parent-on) (lit-active (c .lit) q parent-on)) in

@@ -6,7 +6,7 @@ use mathlib.Core.List.{List}
 use Prim.Native.Nat.{ℕ, _^_, _≤_, _<_}
 use native.Mathlib.Omega.{arith}
 use lib.Dec.{eqb, ltb}
-use lib.ListN.{getD, set, replicate, length-replicate, getD-replicate}
+use lib.ListN.{set, replicate, length-replicate, getD-replicate}
 use lib.Seq.{ext-getD}
 use borrow.Author.Tests.{eqb-true, eqb-false, lt-ltb, le-ltb}
 use Rattle.rules.specs.Numbers.{WHOLE, nodesMost, shareFloor}
@@ -19,11 +19,10 @@ use Rattle.rules.specs.Laws.Sums.{any-in, none-any}
 use Rattle.rules.specs.Laws.Tables.{table-length, table-at, table-set, table-cong}
 use Rattle.rules.specs.Laws.Sets.{has-none, has-setOf, setOf-fits, has-node, remove-here, remove-others}
 use Rattle.rules.specs.Laws.Trees.{leaf-pos, leaf-last, leaves-within, leaves-are, active-leaf, share-le}
-use Rattle.rules.specs.Laws.Shares.{base-share-is}
 use Rattle.sets.specs.Lowest.{Lowest}
 use Rattle.sets.specs.Visit.{LeftOf}
 use Rattle.tree.specs.View.{leavesIn, Lit}
-use Rattle.tree.proofs.Lit.{leaves-back, lit-here, Child}
+use Rattle.tree.proofs.Lit.{leaves-back, lit-here}
 
 -- ---- a leaf of the set is asked for its share
 module _ {t : Tree} (sound : SoundTree t) (active : ℕ) (within : Within t active) (fits : active < 2 ^ nodesMost)

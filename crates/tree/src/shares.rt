@@ -155,3 +155,22 @@ pub(crate) fn thin(tree: Tree) -> bool
     }
     false
 }
+
+// The same of a tree in flight, where a weight changes: by the pass, so that it takes no longer than the shares anew.
+pub(crate) fn thin_in_flight(tree: Tree) -> bool
+    requires { ⌜ SoundTree tree ⌝ }
+    ensures { λ r. ⌜ r ≡ isThin tree ⌝ }
+{
+    let count = tree.count;
+    let all = leaves_in(&tree.parents, count);
+    let shares = base_shares(tree, all);
+    let mut left = all;
+    while left != 0 {
+        let leaf = lowest(left);
+        if (shares[leaf] as u64) < Controller::SHARE_FLOOR {
+            return true;
+        }
+        left = remove(left, leaf);
+    }
+    false
+}

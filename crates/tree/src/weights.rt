@@ -6,7 +6,7 @@ ghost use Rattle.rules.specs.Tree.{withWeight};
 ghost use Rattle.rules.specs.Refusals.{firstOf, weightChecks};
 ghost use Rattle.rules.specs.Invariant.{SoundTree};
 use crate::faults::weight_in_range;
-use crate::shares::thin;
+use crate::shares::thin_in_flight;
 use crate::wide;
 use rules::refusals::Refusal;
 use rules::refusals::Verdict;
@@ -34,7 +34,7 @@ pub fn verdict(tree: Tree, node: u8, weight: u16) -> Verdict
     if !weight_in_range(weight) {
         return Verdict::Refused(Refusal::BadTree(Fault::Weight(at)));
     }
-    if thin(with_weight(tree, node, weight)) {
+    if thin_in_flight(with_weight(tree, node, weight)) {
         return Verdict::Refused(Refusal::ThinTree);
     }
     Verdict::Accepted

@@ -12,7 +12,7 @@ use borrow.Author.Needs.{needs}
 use borrow.Author.Tests.{eqb-true, eqb-false}
 use Rattle.rules.specs.Words.{has}
 use Rattle.tree.specs.View.{treeOf, Lit, childSumIn}
-use Rattle.tree.proofs.Lit.{sumUpTo, sum-starts, sum-adds, sum-strange, sum-idle, sum-ends, Child, parent-asks}
+use Rattle.tree.proofs.Lit.{sumUpTo, sum-starts, sum-adds, sum-strange, sum-idle, sum-ends, Child, parent-inside}
 use Rattle.tree.proofs.shares.child_sums.Statement.{statement}
 use Rattle.tree.proofs.shares.child_sums.Tie as tie
 
@@ -72,7 +72,7 @@ module _ (w : tie.After-wide Inv-loop μ-loop) where
   child = record { lit = start .pre; on = on; below = λ e. absurd (omega (arith, e, more)); is = w .wide .ensures }
 
   inside : w .wide .result < 64
-  inside = omega (arith, parent-asks child refl .0, head .loop .inv .0, start .pre .sound .most)
+  inside = parent-inside child
 
 loop-holds : tie.Need-loop-holds Inv-loop μ-loop
 loop-holds c =

@@ -1,6 +1,6 @@
 -- `shares::node_shares` meets its contract: at the loop's head the active nodes before have their shares.
 -- Assumes nothing.
-use mathlib.Core.Path.{_≡_, refl, sym, ap, _∙_}
+use mathlib.Core.Path.{_≡_, refl, sym, _∙_}
 use mathlib.Core.Bool.{Bool, true, false}
 use mathlib.Core.List.{List}
 use mathlib.Core.Logic.{⊎-elim}
@@ -14,9 +14,9 @@ use borrow.Author.Tests.{eqb-true, eqb-false}
 use Rattle.rules.specs.Words.{has}
 use Rattle.rules.specs.declared.tree.Tree.{Tree}
 use Rattle.rules.specs.Laws.Bools.{true-not-false}
-use Rattle.tree.specs.View.{treeOf, Lit, shareAmong}
+use Rattle.tree.specs.View.{treeOf, childSumIn, shareAmong}
 use Rattle.tree.proofs.View.{last-at}
-use Rattle.tree.proofs.Lit.{lit-last, root-share, Child, parent-asks, share-fits, some-weight, share-stepped}
+use Rattle.tree.proofs.Lit.{lit-last, root-share, Child, parent-asks, parent-inside, share-fits, some-weight, share-stepped}
 use Rattle.tree.proofs.shares.node_shares.Statement.{statement}
 use Rattle.tree.proofs.shares.node_shares.Tie as tie
 
@@ -46,24 +46,37 @@ module _ (t : Tree) (nodes : ℕ) (all : List ℕ) (n : ℕ) (s : Shared t nodes
       go true b = let i : k ≡ n = eqb-true k n b in rw i (getD-set-same all n r 0 h ∙ e)
       go false b = let i : (k ≡ n → ⊥) = eqb-false k n b in getD-set-other all n k r 0 i ∙ s k (omega arith) on
 
-child : (w : tie.After-wide Inv-loop μ-loop) → let a = w .before .before .before .before .before .before .before .args in
-    Child (a .count) (a .parents .now) (a .weights .now) (a .nodes) (w .before .before .before .before .before .loop .node) (w .wide .result)
-child w =
-    let t = w .before .before in
-    let l = t .before .before .before in
-    record { lit = l .before .before .pre; on = sym (t .before .has .ensures) ∙ t .if1 .taken; below = λ e. absurd (omega (arith, e, l .loop .inv .0)); is = w .wide .ensures }
+-- ---- once the parent of an active node is read
+module _ (w : tie.After-wide Inv-loop μ-loop) where
+  abbrev head : tie.At-loop Inv-loop μ-loop
+  head = w .before .before .before .before .before
 
-inside : (w : tie.After-wide Inv-loop μ-loop) → w .wide .result < 64
-inside w =
-    let l = w .before .before .before .before .before in
-    omega (arith, parent-asks (child w) refl .0, w .before .before .before .before .loop-test .taken, l .before .before .pre .sound .most)
+  abbrev summed : tie.After-child-sums Inv-loop μ-loop
+  summed = head .before
 
-above-is : (w : tie.After-wide Inv-loop μ-loop) → let l = w .before .before .before .before .before in let a = l .before .before .args in
-    getD (l .loop .all) (w .wide .result) 0 ≡ shareAmong (treeOf (a .count) (a .parents .now) (a .weights .now)) (a .nodes) (w .wide .result)
-above-is w =
-    let l = w .before .before .before .before .before in
-    let p = parent-asks (child w) refl in
-    l .loop .inv .2 (w .wide .result) (p .0) (p .1 .1)
+  abbrev start : tie.Start Inv-loop μ-loop
+  start = summed .before
+
+  child : Child (start .args .count) (start .args .parents .now) (start .args .weights .now) (start .args .nodes) (head .loop .node) (w .wide .result)
+  child = record {
+    lit = start .pre;
+    on = sym (w .before .before .before .has .ensures) ∙ w .before .before .if1 .taken;
+    below = λ e. absurd (omega (arith, e, head .loop .inv .0));
+    is = w .wide .ensures;
+  }
+
+  inside : w .wide .result < 64
+  inside = parent-inside child
+
+  above-is : getD (head .loop .all) (w .wide .result) 0
+      ≡ shareAmong (treeOf (start .args .count) (start .args .parents .now) (start .args .weights .now)) (start .args .nodes) (w .wide .result)
+  above-is =
+      let p = parent-asks child refl in
+      head .loop .inv .2 (w .wide .result) (p .0) (p .1 .1)
+
+  sum-is : getD (summed .child-sums .result) (w .wide .result) 0
+      ≡ childSumIn (treeOf (start .args .count) (start .args .parents .now) (start .args .weights .now)) (start .args .nodes) (w .wide .result)
+  sum-is = summed .child-sums .ensures (w .wide .result) inside
 
 child-sums-requires : tie.Need-child-sums-requires Inv-loop μ-loop
 child-sums-requires c κs = search needs
@@ -114,8 +127,7 @@ heavy-requires c κs = search needs
 portion-requires : tie.Need-portion-requires Inv-loop μ-loop
 portion-requires c κs =
     let w = c .before .before in
-    let sums = w .before .before .before .before .before .before in
-    (share-fits (child w) (above-is w) (c .heavy .ensures .1), some-weight (child w) (sums .child-sums .ensures (w .wide .result) (inside w)))
+    (share-fits (child w) (above-is w) (c .heavy .ensures .1), some-weight (child w) (sum-is w))
 
 mul-all : tie.Need-mul-all Inv-loop μ-loop
 mul-all c = search needs
@@ -143,7 +155,7 @@ loop-again c =
     rw (w .6) (
       length-set (l .loop .all) (l .loop .node) _ ∙ l .loop .inv .1,
       puts t (a .nodes) (l .loop .all) (l .loop .node) (l .loop .inv .2) _ small
-          (share-stepped (child at) (above-is at) (w .4 .ensures .0) (l .before .child-sums .ensures (w .2 .result) (inside at)) (w .5 .ensures)),
+          (share-stepped (child at) (above-is at) (w .4 .ensures .0) (sum-is at) (w .5 .ensures)),
     ))
     (λ w. rw (w .1) (l .loop .inv .1, idle t (a .nodes) (l .loop .all) (l .loop .node) (l .loop .inv .2) (sym (h .has .ensures) ∙ w .0 .left)))
     (c .if1 .came) in

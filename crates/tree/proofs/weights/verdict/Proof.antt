@@ -67,15 +67,15 @@ with-weight-requires c κs =
     let at = found .before .before in
     inside (at .before .args .tree) (at .before .args .weight) (at .wide .ensures) (here found) (at .before .pre)
 
-thin-requires : tie.Need-thin-requires
-thin-requires c κs =
+thin-in-flight-requires : tie.Need-thin-in-flight-requires
+thin-in-flight-requires c κs =
     let at = c .before .before .before .before .before in
     rw (c .with-weight .ensures) (weight-keeps-sound-trees (at .before .args .node) (at .before .args .weight) (at .before .pre) (range (c .before)))
 
 -- the tree with the weight is thin, or it is not
-thin-is : (c : tie.After-thin) {b : Bool} → c .thin .result ≡ b → let a = c .before .before .before .before .before .before .before .args in
+thin-is : (c : tie.After-thin-in-flight) {b : Bool} → c .thin-in-flight .result ≡ b → let a = c .before .before .before .before .before .before .before .args in
     isThin (withWeight (a .node) (a .weight) (a .tree)) ≡ b
-thin-is c e = rw (c .before .with-weight .ensures) at (sym (c .thin .ensures) ∙ e)
+thin-is c e = rw (c .before .with-weight .ensures) at (sym (c .thin-in-flight .ensures) ∙ e)
 
 returns-3 : tie.Need-returns-3
 returns-3 c =
@@ -100,6 +100,6 @@ verdict-spec =
     (λ c κs. search needs)
     returns-2
     with-weight-requires
-    thin-requires
+    thin-in-flight-requires
     returns-3
     returns-4)
