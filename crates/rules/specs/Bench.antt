@@ -5,6 +5,7 @@ pub mod Edges
 pub mod Faults
 pub mod Flushes
 pub mod Run
+pub mod Shares
 pub mod Weights
 use mathlib.Core.Path.{_≡_, refl}
 use mathlib.Core.Bool.{Bool, true, false, _&&_}

@@ -10,6 +10,7 @@ pub mod Trees
 pub mod TreeVerdicts
 pub mod Faults
 pub mod Shares
+pub mod OnePass
 pub mod Donation
 pub mod Refusals
 pub mod Passes
