@@ -148,3 +148,6 @@ module _ {count : ℕ} {ps ws : List ℕ} {nodes n q : ℕ} (c : Child count ps 
       → r ≡ FLOOR (above * w) s → r ≡ shareAmong T nodes n
   share-stepped h i j k =
       k ∙ rw (h, i, j, ← is-parent, ← weight-at count ps ws n) (sym (share-step (c .lit .sound) (leavesIn T nodes) n pos in-tree))
+
+  pub share-most : {r : ℕ} → r ≡ shareAmong T nodes n → r ≤ WHOLE
+  share-most e = rw e (share-le (c .lit .sound) (leavesIn T nodes) n in-tree (lit-active (c .lit) n (c .on)))

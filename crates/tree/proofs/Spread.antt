@@ -3,22 +3,24 @@
 use mathlib.Core.Path.{_≡_, refl, sym, _∙_}
 use mathlib.Core.Bool.{Bool, true, false, cond, not, _&&_}
 use mathlib.Core.List.{List}
-use Prim.Native.Nat.{ℕ, _^_, _≤_, _<_}
+use Prim.Native.Nat.{ℕ, _+_, _^_, _≤_, _<_}
+use native.Mathlib.Nat.{le-refl}
 use native.Mathlib.Omega.{arith}
 use lib.Dec.{eqb, ltb}
 use lib.ListN.{set, replicate, length-replicate, getD-replicate}
 use lib.Seq.{ext-getD}
-use borrow.Author.Tests.{eqb-true, eqb-false, lt-ltb, le-ltb}
+use borrow.Author.Tests.{eqb-true, eqb-false, ltb-true, ltb-false, lt-ltb, le-ltb}
 use Rattle.rules.specs.Numbers.{WHOLE, nodesMost, shareFloor}
 use Rattle.rules.specs.Words.{has, setOf, table}
 use Rattle.rules.specs.Tree.{last, isLeaf, leavesOf, isActive, shareOf, baseShare, baseShares, isThin}
 use Rattle.rules.specs.Invariant.{SoundTree, Within}
 use Rattle.rules.specs.declared.tree.Tree.{Tree}
-use Rattle.rules.specs.Laws.Bools.{true-not-false, and-both}
+use Rattle.rules.specs.Laws.Bools.{true-not-false, is-false, same-test, and-both}
 use Rattle.rules.specs.Laws.Sums.{any-in, none-any}
 use Rattle.rules.specs.Laws.Tables.{table-length, table-at, table-set, table-cong}
 use Rattle.rules.specs.Laws.Sets.{has-none, has-setOf, setOf-fits, has-node, remove-here, remove-others}
 use Rattle.rules.specs.Laws.Trees.{leaf-pos, leaf-last, leaves-within, leaves-are, active-leaf, share-le}
+use Rattle.rules.specs.Laws.Shares.{no-base-share}
 use Rattle.sets.specs.Lowest.{Lowest}
 use Rattle.sets.specs.Visit.{LeftOf}
 use Rattle.tree.specs.View.{leavesIn, Lit}
@@ -36,54 +38,65 @@ module _ {t : Tree} (sound : SoundTree t) (active : ℕ) (within : Within t acti
   pub leaf-share : {r : ℕ} → r ≡ shareOf t (leavesIn t nodes) n → r ≡ shareOf t active n
   leaf-share e = rw (leaves-back sound active within fits all) at e
 
-  pub leaf-share-most : {r : ℕ} → r ≡ shareOf t (leavesIn t nodes) n → r ≤ WHOLE
-  leaf-share-most e = rw (leaf-share e) (share-le sound active n (leaf-last t n (within n on)) is-active)
+-- ---- the table of base shares, filled below a node
+unfoldable pub filled : Tree → ℕ → ℕ → ℕ → ℕ
+filled t active node n = cond (ltb n node) (baseShare t active n) 0
 
--- ---- a table of the active leaves alone, in which those that are left have nothing yet
-unfoldable pub spread : (ℕ → ℕ) → ℕ → ℕ → ℕ → ℕ
-spread f active left n = cond (has left n) 0 (cond (has active n) (f n) 0)
+below-next : (k n : ℕ) → (k ≡ n → ⊥) → ltb k n ≡ ltb k (n + 1)
+below-next k n i =
+    same-test (ltb k n) (ltb k (n + 1))
+    (λ e. lt-ltb k (n + 1) (omega (arith, ltb-true k n e)))
+    (λ e. lt-ltb k n (let l : k < n + 1 = ltb-true k (n + 1) e in omega arith))
 
-pub spread-starts : (f : ℕ → ℕ) (active : ℕ) → replicate nodesMost 0 ≡ table (spread f active active)
-unfolding spread
-spread-starts f active =
-    ext-getD 0 (replicate nodesMost 0) (table (spread f active active))
-    (length-replicate {A = ℕ} nodesMost 0 ∙ sym (table-length (spread f active active)))
-    (λ n l.
-    let m : n < nodesMost = omega (arith, length-replicate {A = ℕ} nodesMost 0) in
-    getD-replicate nodesMost n 0 0 m ∙ sym (table-at (spread f active active) n 0 m ∙ go (has active n) (f n)))
-  where
-    go : (b : Bool) (x : ℕ) → cond b 0 (cond b x 0) ≡ 0
-    go true x = refl
-    go false x = refl
-
--- with no leaf left it is the table of base shares
-pub spread-ends : (t : Tree) (active : ℕ) {f : ℕ → ℕ} → ((n : ℕ) → has active n ≡ true → f n ≡ shareOf t active n)
-    → {left : ℕ} → left ≡ 0 → {shares : List ℕ} → shares ≡ table (spread f active left) → shares ≡ baseShares t active
-unfolding spread baseShares baseShare
-spread-ends t active {f} same e s =
-    s ∙ table-cong (spread f active _) (baseShare t active) (λ n l. rw (e, has-none n) (go n (has active n) refl))
-  where
-    go : (n : ℕ) (b : Bool) → has active n ≡ b → cond b (f n) 0 ≡ cond b (shareOf t active n) 0
-    go n true on = same n on
-    go n false off = refl
-
-module _ (f : ℕ → ℕ) {active left n out : ℕ} (l : LeftOf active left) (low : Lowest left n)
-    (o : out ≡ setOf (λ k. has left k && not (eqb k n))) where
-  pub spread-next : {shares : List ℕ} → shares ≡ table (spread f active left) → set shares n (f n) ≡ table (spread f active out)
-  unfolding spread
-  spread-next {shares} s =
-      rw s
-      (table-set (spread f active left) n (f n) (low .node)
-      ∙ table-cong (λ k. cond (eqb k n) (f n) (spread f active left k)) (spread f active out) (λ k m. go k m (eqb k n) refl))
+module _ (t : Tree) (active : ℕ) (within : Within t active) where
+  -- the root is no leaf
+  pub fill-starts : replicate nodesMost 0 ≡ table (filled t active 1)
+  unfolding filled
+  fill-starts =
+      ext-getD 0 (replicate nodesMost 0) (table (filled t active 1))
+      (length-replicate {A = ℕ} nodesMost 0 ∙ sym (table-length (filled t active 1)))
+      (λ n l.
+      let m : n < nodesMost = omega (arith, length-replicate {A = ℕ} nodesMost 0) in
+      getD-replicate nodesMost n 0 0 m ∙ sym (table-at (filled t active 1) n 0 m ∙ go n (ltb n 1) refl))
     where
-      go : (k : ℕ) → k < nodesMost → (b : Bool) → eqb k n ≡ b → cond b (f n) (spread f active left k) ≡ spread f active out k
-      go k m true i =
+      go : (n : ℕ) (b : Bool) → ltb n 1 ≡ b → cond b (baseShare t active n) 0 ≡ 0
+      go n true e =
+          let z : n < 1 = ltb-true n 1 e in
+          no-base-share t active n (is-false (has active n) (λ on. omega (arith, z, leaf-pos t n (within n on))))
+      go n false e = refl
+
+  -- n has its place
+  pub fill-next : (n : ℕ) {x : ℕ} → n < nodesMost → x ≡ baseShare t active n → {shares : List ℕ} → shares ≡ table (filled t active n)
+      → set shares n x ≡ table (filled t active (n + 1))
+  unfolding filled
+  fill-next n {x} l e s =
+      rw s
+      (table-set (filled t active n) n x l
+      ∙ table-cong (λ k. cond (eqb k n) x (filled t active n k)) (filled t active (n + 1)) (λ k m. go k (eqb k n) refl))
+    where
+      go : (k : ℕ) (b : Bool) → eqb k n ≡ b → cond b x (filled t active n k) ≡ filled t active (n + 1) k
+      go k true i = let j : k ≡ n = eqb-true k n i in e ∙ rw (j, lt-ltb n (n + 1) (omega arith))
+      go k false i = rw (below-next k n (eqb-false k n i))
+
+  -- or it has none
+  pub fill-skips : (n : ℕ) → has active n ≡ false → {shares : List ℕ} → shares ≡ table (filled t active n)
+      → shares ≡ table (filled t active (n + 1))
+  unfolding filled
+  fill-skips n off s = s ∙ table-cong (filled t active n) (filled t active (n + 1)) (λ k m. go k (eqb k n) refl)
+    where
+      go : (k : ℕ) (b : Bool) → eqb k n ≡ b → filled t active n k ≡ filled t active (n + 1) k
+      go k true i =
           let j : k ≡ n = eqb-true k n i in
-          let gone : has out k ≡ false = rw o (remove-here left n k m j) in
-          rw (gone, j, l .from n (low .here))
-      go k m false i =
-          let same : has out k ≡ has left k = rw o (remove-others left n k m (eqb-false k n i)) in
-          rw same
+          rw (j, le-ltb n n (le-refl n), lt-ltb n (n + 1) (omega arith)) (sym (no-base-share t active n off))
+      go k false i = rw (below-next k n (eqb-false k n i))
+
+  pub fill-ends : {node : ℕ} → t .count ≤ node → {shares : List ℕ} → shares ≡ table (filled t active node) → shares ≡ baseShares t active
+  unfolding filled baseShares last
+  fill-ends {node} l s = s ∙ table-cong (filled t active node) (baseShare t active) (λ n m. go n (ltb n node) refl)
+    where
+      go : (n : ℕ) (b : Bool) → ltb n node ≡ b → cond b (baseShare t active n) 0 ≡ baseShare t active n
+      go n true e = refl
+      go n false e = sym (no-base-share t active n (is-false (has active n) (λ on. omega (arith, ltb-false n node e, leaf-pos t n (within n on), leaf-last t n (within n on)))))
 
 -- ---- no leaf that has been passed is below the floor
 abbrev pub Fair : (ℕ → ℕ) → ℕ → ℕ → Type 0

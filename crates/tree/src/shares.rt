@@ -1,6 +1,6 @@
 // Base shares: what each active leaf of a sound tree is worth, and whether a tree is so thin that some leaf could starve.
 ghost use mathlib.Core.Path.{_≡_};
-ghost use mathlib.Core.Bool.{true};
+ghost use mathlib.Core.Bool.{true, cond};
 ghost use Prim.Native.Nat.{ℕ, _*_, _^_, _<_};
 ghost use lib.ListN.{getD};
 ghost use Rattle.rules.specs.Units.{FLOOR};
@@ -92,47 +92,37 @@ fn child_sums<'a>(
     sums
 }
 
-// The shares of all active nodes, in one pass by rising number: a parent's number is smaller, so its share is there when
-// a child asks for it. Places of other nodes mean nothing.
-fn node_shares<'a>(
-    parents: &'a [u8; 64],
-    weights: &'a [u16; 64],
-    count: usize,
-    nodes: u64,
-) -> [u64; 64]
-    requires { ⌜ Lit (treeOf count (now parents) (now weights)) nodes ⌝ }
-    ensures { λ r. ⌜ ((n : ℕ) → member nodes n ≡ true → getD r n 0 ≡ shareAmong (treeOf count (now (parents .entry)) (now (weights .entry))) nodes n) ⌝ }
+// What a node has of the shares that are handed out: a leaf that is active its own, an inner node nothing.
+fn own(active: u64, node: usize, share: u64) -> u32
+    requires { ⌜ (node < 64) × (share < 2 ^ 32) ⌝ }
+    ensures { λ r. ⌜ r ≡ cond (member active node) share 0 ⌝ }
 {
-    let sums = child_sums(parents, weights, count, nodes);
-    let mut all = [0u64; 64];
-    all[0] = Controller::WHOLE;
-    let mut node: usize = 1;
-    while node < count {
-        if has(nodes, node) {
-            let parent = wide(parents[node]);
-            let above = all[parent];
-            let sum = sums[parent];
-            all[node] = portion(above, heavy(weights[node]), sum);
-        }
-        node += 1;
-    }
-    all
+    if has(active, node) { share as u32 } else { 0 }
 }
 
-// The base share of each active leaf; every other place is 0.
+// The base share of each active leaf; every other place is 0. One pass over the nodes by rising number: a parent's number is
+// smaller, so its share is there when a child needs it.
 pub fn base_shares(tree: Tree, active: u64) -> [u32; 64]
     requires { ⌜ SoundTree tree × Within tree active ⌝ }
     ensures { λ r. ⌜ r ≡ baseShares tree active ⌝ }
 {
     let count = tree.count;
     let nodes = active_nodes(&tree.parents, count, active);
-    let all = node_shares(&tree.parents, &tree.weights, count, nodes);
+    let sums = child_sums(&tree.parents, &tree.weights, count, nodes);
+    let mut all = [0u64; 64];
+    all[0] = Controller::WHOLE;
     let mut shares = [0u32; 64];
-    let mut left = active;
-    while left != 0 {
-        let leaf = lowest(left);
-        shares[leaf] = all[leaf] as u32;
-        left = remove(left, leaf);
+    let mut node: usize = 1;
+    while node < count {
+        if has(nodes, node) {
+            let parent = wide(tree.parents[node]);
+            let above = all[parent];
+            let sum = sums[parent];
+            let share = portion(above, heavy(tree.weights[node]), sum);
+            all[node] = share;
+            shares[node] = own(active, node, share);
+        }
+        node += 1;
     }
     shares
 }

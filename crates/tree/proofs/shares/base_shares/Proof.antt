@@ -1,27 +1,52 @@
--- `shares::base_shares` meets its contract: at the loop's head the leaves that are left have no share yet.
+-- `shares::base_shares` meets its contract: at the loop's head the active nodes before have their shares, and the active leaves
+-- among them their places.
 -- Assumes nothing.
-use mathlib.Core.Path.{_≡_}
-use mathlib.Core.Bool.{true}
-use Prim.Native.Nat.{ℕ}
+use mathlib.Core.Path.{_≡_, refl, sym, _∙_}
+use mathlib.Core.Bool.{Bool, true, false, cond}
+use mathlib.Core.List.{List}
+use mathlib.Core.Logic.{⊎-elim}
+use Prim.Native.Nat.{ℕ, _+_, _-_, _≤_, _<_}
 use native.Mathlib.Omega.{arith}
-use lib.ListN.{getD}
+use lib.Dec.{eqb}
+use lib.ListN.{length, getD, set, length-set}
+use lib.Seq.{getD-set-same, getD-set-other}
 use borrow.Author.Needs.{needs}
+use borrow.Author.Tests.{eqb-true, eqb-false}
 use Rattle.rules.specs.Words.{has, setOf, table}
-use Rattle.rules.specs.Tree.{isActive}
+use Rattle.rules.specs.Tree.{isActive, shareOf, baseShare}
 use Rattle.rules.specs.declared.tree.Tree.{Tree}
-use Rattle.rules.specs.Laws.Sets.{has-node}
-use Rattle.sets.specs.Visit.{LeftOf, all-left, visited, fewer-left}
-use Rattle.tree.specs.View.{shareAmong}
-use Rattle.tree.proofs.Lit.{lit-here}
-use Rattle.tree.proofs.Spread.{leaf-asks, leaf-share, leaf-share-most, spread, spread-starts, spread-next, spread-ends}
+use Rattle.rules.specs.Laws.Bools.{true-not-false, is-false}
+use Rattle.tree.specs.View.{childSumIn, shareAmong}
+use Rattle.tree.proofs.Lit.{lit-here, root-share, Child, parent-asks, parent-inside, share-fits, some-weight, share-stepped, share-most}
+use Rattle.tree.proofs.Spread.{leaf-asks, leaf-share, filled, fill-starts, fill-next, fill-skips, fill-ends}
 use Rattle.tree.proofs.shares.base_shares.Statement.{statement}
 use Rattle.tree.proofs.shares.base_shares.Tie as tie
 
+-- the active nodes below n have their shares
+abbrev Shared : Tree → ℕ → List ℕ → ℕ → Type 0
+Shared t nodes all n = (k : ℕ) → k < n → has nodes k ≡ true → getD all k 0 ≡ shareAmong t nodes k
+
 abbrev Inv-loop : tie.InvT-loop
-Inv-loop active count nodes all shares₀ left₀ shares left = LeftOf active left × (shares ≡ table (spread (λ n. getD all n 0) active left))
+Inv-loop active tree count nodes sums all₀ shares₀ node₀ all shares node =
+    (0 < node) × (length all ≡ 64) × Shared tree nodes all node × (shares ≡ table (filled tree active node))
 
 abbrev μ-loop : tie.MeasureT-loop
-μ-loop active count nodes all shares₀ left₀ shares left = left
+μ-loop active tree count nodes sums all₀ shares₀ node₀ all shares node = count - node
+
+module _ (t : Tree) (nodes : ℕ) (all : List ℕ) (n : ℕ) (s : Shared t nodes all n) where
+  idle : has nodes n ≡ false → Shared t nodes all (n + 1)
+  idle off k l on = go (eqb k n) refl
+    where
+      go : (b : Bool) → eqb k n ≡ b → getD all k 0 ≡ shareAmong t nodes k
+      go true b = let e : k ≡ n = eqb-true k n b in absurd (true-not-false on (rw e off))
+      go false b = let i : (k ≡ n → ⊥) = eqb-false k n b in s k (omega arith) on
+
+  puts : (r : ℕ) → n < length all → r ≡ shareAmong t nodes n → Shared t nodes (set all n r) (n + 1)
+  puts r h e k l on = go (eqb k n) refl
+    where
+      go : (b : Bool) → eqb k n ≡ b → getD (set all n r) k 0 ≡ shareAmong t nodes k
+      go true b = let i : k ≡ n = eqb-true k n b in rw i (getD-set-same all n r 0 h ∙ e)
+      go false b = let i : (k ≡ n → ⊥) = eqb-false k n b in getD-set-other all n k r 0 i ∙ s k (omega arith) on
 
 -- ---- what is known once the active nodes are
 module _ (s : tie.After-active-nodes Inv-loop μ-loop) where
@@ -31,92 +56,190 @@ module _ (s : tie.After-active-nodes Inv-loop μ-loop) where
   abbrev tree : Tree
   tree = start .args .t1
 
+  abbrev active : ℕ
+  active = start .args .active
+
   abbrev nodes : ℕ
   nodes = s .active-nodes .result
 
-  are-active : nodes ≡ setOf (isActive tree (start .args .active))
+  are-active : nodes ≡ setOf (isActive tree active)
   are-active = s .active-nodes .ensures (tree .weights) (start .pre .0) (start .pre .1)
 
--- ---- and once the pass is over
-module _ (p : tie.After-node-shares Inv-loop μ-loop) where
-  abbrev known : tie.After-active-nodes Inv-loop μ-loop
-  known = p .before .before .before .before
+  -- a node that is not active is no active leaf
+  no-leaf : (n : ℕ) → n < 64 → has nodes n ≡ false → has active n ≡ false
+  no-leaf n l off =
+      is-false (has active n) (λ on.
+      true-not-false (leaf-asks (start .pre .0) active (start .pre .1) (start .fits .active .fits) are-active n on l .1) off)
 
-  -- the table has the share of each active leaf
-  passed : (n : ℕ) → has (start known .args .active) n ≡ true → getD (p .node-shares .result) n 0 ≡ shareAmong (tree known) (nodes known) n
-  passed n on =
-      let at = start known in
-      p .node-shares .ensures n
-      (leaf-asks (at .pre .0) (at .args .active) (at .pre .1) (at .fits .active .fits) (are-active known) n on
-      (has-node (at .args .active) n (at .fits .active .fits) on) .1)
+  -- the share among the active nodes is the base share
+  base-is : (n : ℕ) {r x : ℕ} → x ≡ shareAmong tree nodes n → r ≡ cond (has active n) x 0 → r ≡ baseShare tree active n
+  unfolding baseShare
+  base-is n {r} {x} e f = f ∙ go (has active n) refl
+    where
+      go : (b : Bool) → has active n ≡ b → cond b x 0 ≡ cond b (shareOf tree active n) 0
+      go true on = leaf-share (start .pre .0) active (start .pre .1) (start .fits .active .fits) are-active n on e
+      go false off = refl
+
+-- ---- once the parent of an active node is read
+module _ (w : tie.After-wide Inv-loop μ-loop) where
+  abbrev head : tie.At-loop Inv-loop μ-loop
+  head = w .before .before .before .before .before
+
+  abbrev summed : tie.After-child-sums Inv-loop μ-loop
+  summed = head .before
+
+  abbrev known : tie.After-active-nodes Inv-loop μ-loop
+  known = summed .before .before .before .before
+
+  child : Child (tree known .count) (tree known .parents) (tree known .weights) (nodes known) (head .loop .node) (w .wide .result)
+  child = record {
+    lit = lit-here (start known .pre .0) (active known) (start known .pre .1) (start known .fits .active .fits) (are-active known);
+    on = sym (w .before .before .before .has .ensures) ∙ w .before .before .if1 .taken;
+    below = λ e. absurd (omega (arith, e, head .loop .inv .0));
+    is = w .wide .ensures;
+  }
+
+  inside : w .wide .result < 64
+  inside = parent-inside child
+
+  above-is : getD (head .loop .all) (w .wide .result) 0 ≡ shareAmong (tree known) (nodes known) (w .wide .result)
+  above-is =
+      let p = parent-asks child refl in
+      head .loop .inv .2 (w .wide .result) (p .0) (p .1 .1)
+
+  sum-is : getD (summed .child-sums .result) (w .wide .result) 0 ≡ childSumIn (tree known) (nodes known) (w .wide .result)
+  sum-is = summed .child-sums .ensures (w .wide .result) inside
+
+-- the node's share
+share : (c : tie.After-portion Inv-loop μ-loop) → let w = c .before .before .before in
+    c .portion .result ≡ shareAmong (tree (known w)) (nodes (known w)) (head w .loop .node)
+share c =
+    let w = c .before .before .before in
+    share-stepped (child w) (above-is w) (c .before .heavy .ensures .0) (sum-is w) (c .portion .ensures)
 
 active-nodes-requires : tie.Need-active-nodes-requires Inv-loop μ-loop
 active-nodes-requires c κs =
     let at = c .before .before in
     record { weights = at .args .t1 .weights; sound = at .pre .0; within = at .pre .1 }
 
-node-shares-requires : tie.Need-node-shares-requires Inv-loop μ-loop
-node-shares-requires c κs =
+child-sums-requires : tie.Need-child-sums-requires Inv-loop μ-loop
+child-sums-requires c κs =
     let s = c .before .before .before in
     let at = start s in
     lit-here (at .pre .0) (at .args .active) (at .pre .1) (at .fits .active .fits) (are-active s)
 
+array-write-all : tie.Need-array-write-all Inv-loop μ-loop
+array-write-all c = search needs
+
 loop-holds : tie.Need-loop-holds Inv-loop μ-loop
 loop-holds c =
-    let at = start (known c) in
-    (all-left (at .args .active) (at .fits .active .fits), spread-starts (λ n. getD (c .node-shares .result) n 0) (at .args .active))
-
-lowest-requires : tie.Need-lowest-requires Inv-loop μ-loop
-lowest-requires c κs = search needs
-
-mul-shares : tie.Need-mul-shares Inv-loop μ-loop
-mul-shares c = omega (arith, c .lowest .ensures .node)
-
-array-read-shares : tie.Need-array-read-shares Inv-loop μ-loop
-array-read-shares c = c .lowest .ensures .node
-
-cast-shares : tie.Need-cast-shares Inv-loop μ-loop
-cast-shares c =
-    let l = c .before .before in
-    let s = known (l .before) in
-    let at = start s in
-    let on = l .loop .inv .0 .from (c .lowest .result) (c .lowest .ensures .here) in
-    omega (
-      arith,
-      leaf-share-most (at .pre .0) (at .args .active) (at .pre .1) (at .fits .active .fits) (are-active s) (c .lowest .result) on
-          (passed (l .before) (c .lowest .result) on),
+    let s = c .before .before .before .before in (
+      search needs,
+      refl,
+      λ k l on. let z : k ≡ 0 = omega arith in rw z (root-share (tree s) (nodes s) 0 refl),
+      fill-starts (tree s) (active s) (start s .pre .1),
     )
 
-mul-shares-2 : tie.Need-mul-shares-2 Inv-loop μ-loop
-mul-shares-2 c = omega (arith, c .lowest .ensures .node)
+has-requires : tie.Need-has-requires Inv-loop μ-loop
+has-requires c κs = search needs
+
+element-copy-out-wide : tie.Need-element-copy-out-wide Inv-loop μ-loop
+element-copy-out-wide c = search needs
+
+wide-requires : tie.Need-wide-requires Inv-loop μ-loop
+wide-requires c κs = search needs
+
+mul-above : tie.Need-mul-above Inv-loop μ-loop
+mul-above c = omega (arith, inside c)
+
+array-read-above : tie.Need-array-read-above Inv-loop μ-loop
+array-read-above c = inside c
+
+mul-sum : tie.Need-mul-sum Inv-loop μ-loop
+mul-sum c = omega (arith, inside c)
+
+array-read-sum : tie.Need-array-read-sum Inv-loop μ-loop
+array-read-sum c = inside c
+
+mul-heavy : tie.Need-mul-heavy Inv-loop μ-loop
+mul-heavy c = search needs
+
+element-copy-out-heavy : tie.Need-element-copy-out-heavy Inv-loop μ-loop
+element-copy-out-heavy c = search needs
+
+heavy-requires : tie.Need-heavy-requires Inv-loop μ-loop
+heavy-requires c κs = search needs
+
+portion-requires : tie.Need-portion-requires Inv-loop μ-loop
+portion-requires c κs =
+    let w = c .before .before in
+    (share-fits (child w) (above-is w) (c .heavy .ensures .1), some-weight (child w) (sum-is w))
+
+mul-all : tie.Need-mul-all Inv-loop μ-loop
+mul-all c = search needs
+
+array-write-all-2 : tie.Need-array-write-all-2 Inv-loop μ-loop
+array-write-all-2 c = search needs
+
+own-requires : tie.Need-own-requires Inv-loop μ-loop
+own-requires c κs =
+    let w = c .before .before .before in
+    (search needs, omega (arith, share-most (child w) (share c)))
+
+mul-shares : tie.Need-mul-shares Inv-loop μ-loop
+mul-shares c = search needs
 
 array-write-shares : tie.Need-array-write-shares Inv-loop μ-loop
-array-write-shares c = c .lowest .ensures .node
+array-write-shares c = search needs
 
-remove-requires : tie.Need-remove-requires Inv-loop μ-loop
-remove-requires c κs = search needs
+add-node : tie.Need-add-node Inv-loop μ-loop
+add-node c = search needs
 
 loop-less : tie.Need-loop-less Inv-loop μ-loop
-loop-less c =
-    let w = c .before in
-    fewer-left (w .before .before .loop .inv .0) (w .lowest .ensures) (c .remove .ensures)
+loop-less c = search needs
 
 loop-again : tie.Need-loop-again Inv-loop μ-loop
 loop-again c =
-    let w = c .before in
-    let l = w .before .before in (
-      visited (l .loop .inv .0) (w .lowest .ensures) (c .remove .ensures),
-      spread-next (λ n. getD (l .before .node-shares .result) n 0) (l .loop .inv .0) (w .lowest .ensures) (c .remove .ensures) (l .loop .inv .1),
-    )
+    let h = c .before in
+    let l = h .before .before in
+    let s = l .before .before .before .before .before in
+    let n = l .loop .node in
+    let small : n < 64 = omega (arith, h .before .loop-test .taken, start s .pre .0 .most) in
+    let step : (length (c .if1 .all) ≡ 64)
+    × Shared (tree s) (nodes s) (c .if1 .all) (n + 1)
+    × (c .if1 .shares ≡ table (filled (tree s) (active s) (n + 1))) =
+    ⊎-elim
+    (λ w.
+    let at : tie.After-portion Inv-loop μ-loop = record {
+      before = record {
+        before = record {
+          before = record { before = record { before = record { before = h; if1 = w .0 }; wide-arg = w .1 }; wide = w .2 };
+          heavy-arg = w .3;
+        };
+        heavy = w .4;
+      };
+      portion = w .5;
+    } in
+    rw (w .7, w .8) (
+      length-set (l .loop .all) n _ ∙ l .loop .inv .1,
+      puts (tree s) (nodes s) (l .loop .all) n (l .loop .inv .2) _ (omega (arith, l .loop .inv .1)) (share at),
+      fill-next (tree s) (active s) (start s .pre .1) n small (base-is s n (share at) (w .6 .ensures)) (l .loop .inv .3),
+    ))
+    (λ w.
+    let off = sym (h .has .ensures) ∙ w .0 .left in
+    rw (w .1, w .2) (
+      l .loop .inv .1,
+      idle (tree s) (nodes s) (l .loop .all) n (l .loop .inv .2) off,
+      fill-skips (tree s) (active s) (start s .pre .1) n (no-leaf s n small off) (l .loop .inv .3),
+    ))
+    (c .if1 .came) in
+    (search needs, step .0, step .1, step .2)
 
 returns : tie.Need-returns Inv-loop μ-loop
 returns c =
     let l = c .before in
-    let s = known (l .before) in
-    let at = start s in
-    spread-ends (tree s) (at .args .active)
-    (λ n on. leaf-share (at .pre .0) (at .args .active) (at .pre .1) (at .fits .active .fits) (are-active s) n on (passed (l .before) n on))
-    (c .loop-test .left) (l .loop .inv .1)
+    let s = l .before .before .before .before .before in
+    fill-ends (tree s) (active s) (start s .pre .1) (omega (arith, c .loop-test .left)) (l .loop .inv .3)
 
 pub base-shares-spec : {M : Type 1} → statement M
 base-shares-spec =
@@ -125,15 +248,26 @@ base-shares-spec =
     Inv-loop
     μ-loop
     active-nodes-requires
-    node-shares-requires
+    child-sums-requires
+    array-write-all
     loop-holds
-    lowest-requires
+    has-requires
+    element-copy-out-wide
+    wide-requires
+    mul-above
+    array-read-above
+    mul-sum
+    array-read-sum
+    mul-heavy
+    element-copy-out-heavy
+    heavy-requires
+    portion-requires
+    mul-all
+    array-write-all-2
+    own-requires
     mul-shares
-    array-read-shares
-    cast-shares
-    mul-shares-2
     array-write-shares
-    remove-requires
+    add-node
     loop-less
     loop-again
     returns)
