@@ -3,4 +3,4 @@ pub mod First
 pub mod Cut
 pub mod Reach
 pub mod Lit
-pub mod Spread
+pub mod Leaves

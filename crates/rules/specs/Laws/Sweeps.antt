@@ -2,7 +2,7 @@
 -- Assumes nothing.
 use mathlib.Core.Path.{_≡_, sym, ap, _∙_}
 use mathlib.Core.List.{List, _++_, append-nil}
-use Prim.Native.Nat.{ℕ, suc, _+_, _<_}
+use Prim.Native.Nat.{ℕ, zero, suc, _+_, _≤_, _<_}
 use native.Mathlib.Numerals.{add-one}
 use native.Mathlib.Omega.{arith}
 use lib.ListN.{length, take, drop, getD, set}
@@ -52,3 +52,12 @@ module _ {A : Type 0} where
 
   pub places-done : (f : ℕ → A) (l s : List A) (i : ℕ) → length l ≡ nodesMost → s ≡ swept (table f) l i → i ≡ nodesMost → s ≡ table f
   places-done f l s i full e h = e ∙ swept-all (table f) l i (table-length f ∙ sym h) (full ∙ sym h)
+
+  -- the places that are left have what they should have already
+  pub places-rest : (f : ℕ → A) (l : List A) (d : A) → length l ≡ nodesMost → (left i : ℕ) → left + i ≡ nodesMost
+      → ((k : ℕ) → i ≤ k → k < nodesMost → getD l k d ≡ f k) → (s : List A) → s ≡ swept (table f) l i → s ≡ table f
+  places-rest f l d full zero i h same s e = places-done f l s i full e (omega arith)
+  places-rest f l d full (suc left) i h same s e =
+      let here : i < nodesMost = omega arith in
+      places-rest f l d full left (i + 1) (omega arith) (λ k m. same k (omega arith)) s
+      (place-skip f l s i d full e here (same i (omega arith) here))

@@ -8,17 +8,21 @@ use mathlib.Core.Logic.{⊎-elim}
 use Prim.Native.Nat.{ℕ, _+_, _-_, _≤_, _<_}
 use native.Mathlib.Omega.{arith}
 use lib.Dec.{eqb}
-use lib.ListN.{length, getD, set, length-set}
+use lib.ListN.{length, getD, set, replicate, length-set, getD-replicate}
 use lib.Seq.{getD-set-same, getD-set-other}
 use borrow.Author.Needs.{needs}
 use borrow.Author.Tests.{eqb-true, eqb-false}
 use Rattle.rules.specs.Words.{has, setOf, table}
-use Rattle.rules.specs.Tree.{isActive, shareOf, baseShare}
+use Rattle.rules.specs.Tree.{isLeaf, isActive, shareOf, baseShare, baseShares}
 use Rattle.rules.specs.declared.tree.Tree.{Tree}
 use Rattle.rules.specs.Laws.Bools.{true-not-false, is-false}
+use Rattle.rules.specs.Laws.Sweeps.{swept, place-put, place-skip, places-rest}
+use Rattle.rules.specs.Laws.Trees.{leaf-pos, leaf-last}
+use Rattle.rules.specs.Laws.Shares.{no-base-share}
 use Rattle.tree.specs.View.{childSumIn, shareAmong}
+use Rattle.tree.proofs.View.{last-at}
 use Rattle.tree.proofs.Lit.{lit-here, root-share, Child, parent-asks, parent-inside, share-fits, some-weight, share-stepped, share-most}
-use Rattle.tree.proofs.Spread.{leaf-asks, leaf-share, filled, fill-starts, fill-next, fill-skips, fill-ends}
+use Rattle.tree.proofs.Leaves.{leaf-asks, leaf-share}
 use Rattle.tree.proofs.shares.base_shares.Statement.{statement}
 use Rattle.tree.proofs.shares.base_shares.Tie as tie
 
@@ -28,7 +32,7 @@ Shared t nodes all n = (k : ℕ) → k < n → has nodes k ≡ true → getD all
 
 abbrev Inv-loop : tie.InvT-loop
 Inv-loop active tree count nodes sums all₀ shares₀ node₀ all shares node =
-    (0 < node) × (length all ≡ 64) × Shared tree nodes all node × (shares ≡ table (filled tree active node))
+    (0 < node) × (length all ≡ 64) × Shared tree nodes all node × (shares ≡ swept (table (baseShare tree active)) (replicate 64 0) node) × (node ≤ 64)
 
 abbrev μ-loop : tie.MeasureT-loop
 μ-loop active tree count nodes sums all₀ shares₀ node₀ all shares node = count - node
@@ -70,6 +74,10 @@ module _ (s : tie.After-active-nodes Inv-loop μ-loop) where
   no-leaf n l off =
       is-false (has active n) (λ on.
       true-not-false (leaf-asks (start .pre .0) active (start .pre .1) (start .fits .active .fits) are-active n on l .1) off)
+
+  -- only an active leaf has a base share
+  none-for : (n : ℕ) → (isLeaf tree n ≡ true → ⊥) → 0 ≡ baseShare tree active n
+  none-for n no-leaf-here = sym (no-base-share tree active n (is-false (has active n) (λ on. no-leaf-here (start .pre .1 n on))))
 
   -- the share among the active nodes is the base share
   base-is : (n : ℕ) {r x : ℕ} → x ≡ shareAmong tree nodes n → r ≡ cond (has active n) x 0 → r ≡ baseShare tree active n
@@ -137,7 +145,9 @@ loop-holds c =
       search needs,
       refl,
       λ k l on. let z : k ≡ 0 = omega arith in rw z (root-share (tree s) (nodes s) 0 refl),
-      fill-starts (tree s) (active s) (start s .pre .1),
+      place-skip (baseShare (tree s) (active s)) (replicate 64 0) (replicate 64 0) 0 0 refl refl (omega arith)
+          (none-for s 0 (λ leaf. omega (arith, leaf-pos (tree s) 0 leaf))),
+      omega arith,
     )
 
 has-requires : tie.Need-has-requires Inv-loop μ-loop
@@ -207,7 +217,7 @@ loop-again c =
     let small : n < 64 = omega (arith, h .before .loop-test .taken, start s .pre .0 .most) in
     let step : (length (c .if1 .all) ≡ 64)
     × Shared (tree s) (nodes s) (c .if1 .all) (n + 1)
-    × (c .if1 .shares ≡ table (filled (tree s) (active s) (n + 1))) =
+    × (c .if1 .shares ≡ swept (table (baseShare (tree s) (active s))) (replicate 64 0) (n + 1)) =
     ⊎-elim
     (λ w.
     let at : tie.After-portion Inv-loop μ-loop = record {
@@ -223,23 +233,31 @@ loop-again c =
     rw (w .7, w .8) (
       length-set (l .loop .all) n _ ∙ l .loop .inv .1,
       puts (tree s) (nodes s) (l .loop .all) n (l .loop .inv .2) _ (omega (arith, l .loop .inv .1)) (share at),
-      fill-next (tree s) (active s) (start s .pre .1) n small (base-is s n (share at) (w .6 .ensures)) (l .loop .inv .3),
+      place-put (baseShare (tree s) (active s)) (replicate 64 0) (l .loop .shares) n 0 refl (l .loop .inv .3) small (w .6 .result)
+          (base-is s n (share at) (w .6 .ensures)),
     ))
     (λ w.
     let off = sym (h .has .ensures) ∙ w .0 .left in
     rw (w .1, w .2) (
       l .loop .inv .1,
       idle (tree s) (nodes s) (l .loop .all) n (l .loop .inv .2) off,
-      fill-skips (tree s) (active s) (start s .pre .1) n (no-leaf s n small off) (l .loop .inv .3),
+      place-skip (baseShare (tree s) (active s)) (replicate 64 0) (l .loop .shares) n 0 refl (l .loop .inv .3) small
+          (getD-replicate 64 n 0 0 small ∙ sym (no-base-share (tree s) (active s) n (no-leaf s n small off))),
     ))
     (c .if1 .came) in
-    (search needs, step .0, step .1, step .2)
+    (search needs, step .0, step .1, step .2, omega arith)
 
 returns : tie.Need-returns Inv-loop μ-loop
+unfolding baseShares
 returns c =
     let l = c .before in
     let s = l .before .before .before .before .before in
-    fill-ends (tree s) (active s) (start s .pre .1) (omega (arith, c .loop-test .left)) (l .loop .inv .3)
+    let n = l .loop .node in
+    places-rest (baseShare (tree s) (active s)) (replicate 64 0) 0 refl (64 - n) n (omega (arith, l .loop .inv .4))
+    (λ k m small.
+    getD-replicate 64 k 0 0 small
+    ∙ none-for s k (λ leaf. omega (arith, leaf-pos (tree s) k leaf, rw (last-at (tree s .count) (tree s .parents) (tree s .weights)) at (leaf-last (tree s) k leaf), c .loop-test .left)))
+    (l .loop .shares) (l .loop .inv .3)
 
 pub base-shares-spec : {M : Type 1} → statement M
 base-shares-spec =

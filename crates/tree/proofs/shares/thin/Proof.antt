@@ -12,7 +12,7 @@ use Rattle.sets.specs.Lowest.{Lowest}
 use Rattle.sets.specs.Visit.{LeftOf, all-left, visited, fewer-left}
 use Rattle.tree.specs.View.{leavesIn, Lit}
 use Rattle.tree.proofs.View.{sound-climbs}
-use Rattle.tree.proofs.Spread.{leaf-asks, leaf-share, Fair, leaves-only, leaves-fit, fair-starts, fair-next, thin-found, none-thin}
+use Rattle.tree.proofs.Leaves.{leaf-asks, leaf-share, Fair, leaves-only, leaves-fit, fair-starts, fair-next, thin-found, none-thin}
 use Rattle.tree.proofs.shares.thin.Statement.{statement}
 use Rattle.tree.proofs.shares.thin.Tie as tie
 

@@ -13,7 +13,7 @@ use Rattle.rules.specs.Laws.Shares.{base-share-is}
 use Rattle.rules.specs.Laws.Resharing.{base-shares-each}
 use Rattle.sets.specs.Visit.{LeftOf, all-left, visited, fewer-left}
 use Rattle.tree.proofs.View.{sound-climbs}
-use Rattle.tree.proofs.Spread.{Fair, leaves-only, leaves-fit, fair-starts, fair-next, thin-found, none-thin}
+use Rattle.tree.proofs.Leaves.{Fair, leaves-only, leaves-fit, fair-starts, fair-next, thin-found, none-thin}
 use Rattle.tree.proofs.shares.thin_in_flight.Statement.{statement}
 use Rattle.tree.proofs.shares.thin_in_flight.Tie as tie
 
