@@ -112,8 +112,7 @@ pub fn base_shares(tree: Tree, active: u64) -> [u32; 64]
     let mut all = [0u64; 64];
     all[0] = Controller::WHOLE;
     let mut shares = [0u32; 64];
-    let mut node: usize = 1;
-    while node < count {
+    for node in 1..count {
         if has(nodes, node) {
             let parent = wide(tree.parents[node]);
             let above = all[parent];
@@ -122,7 +121,6 @@ pub fn base_shares(tree: Tree, active: u64) -> [u32; 64]
             all[node] = share;
             shares[node] = own(active, node, share);
         }
-        node += 1;
     }
     shares
 }
