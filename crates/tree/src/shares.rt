@@ -112,14 +112,14 @@ pub fn base_shares(tree: Tree, active: u64) -> [u32; 64]
     let mut all = [0u64; 64];
     all[0] = Controller::WHOLE;
     let mut shares = [0u32; 64];
-    for node in 1..count {
-        if has(nodes, node) {
-            let parent = wide(tree.parents[node]);
+    for n in 1..count {
+        if has(nodes, n) {
+            let parent = wide(tree.parents[n]);
             let above = all[parent];
             let sum = sums[parent];
-            let share = portion(above, heavy(tree.weights[node]), sum);
-            all[node] = share;
-            shares[node] = own(active, node, share);
+            let share = portion(above, heavy(tree.weights[n]), sum);
+            all[n] = share;
+            shares[n] = own(active, n, share);
         }
     }
     shares

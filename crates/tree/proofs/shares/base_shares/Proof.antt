@@ -31,11 +31,11 @@ abbrev Shared : Tree → ℕ → List ℕ → ℕ → Type 0
 Shared t nodes all n = (k : ℕ) → k < n → has nodes k ≡ true → getD all k 0 ≡ shareAmong t nodes k
 
 abbrev Inv-loop : tie.InvT-loop
-Inv-loop active tree count nodes sums all₀ shares₀ node₀ all shares node =
-    (0 < node) × (length all ≡ 64) × Shared tree nodes all node × (shares ≡ swept (table (baseShare tree active)) (replicate 64 0) node) × (node ≤ 64)
+Inv-loop active tree count nodes sums all₀ shares₀ n₀ all shares n =
+    (0 < n) × (length all ≡ 64) × Shared tree nodes all n × (shares ≡ swept (table (baseShare tree active)) (replicate 64 0) n) × (n ≤ 64)
 
 abbrev μ-loop : tie.MeasureT-loop
-μ-loop active tree count nodes sums all₀ shares₀ node₀ all shares node = count - node
+μ-loop active tree count nodes sums all₀ shares₀ n₀ all shares n = count - n
 
 module _ (t : Tree) (nodes : ℕ) (all : List ℕ) (n : ℕ) (s : Shared t nodes all n) where
   idle : has nodes n ≡ false → Shared t nodes all (n + 1)
@@ -99,7 +99,7 @@ module _ (w : tie.After-wide Inv-loop μ-loop) where
   abbrev known : tie.After-active-nodes Inv-loop μ-loop
   known = summed .before .before .before .before
 
-  child : Child (tree known .count) (tree known .parents) (tree known .weights) (nodes known) (head .loop .node) (w .wide .result)
+  child : Child (tree known .count) (tree known .parents) (tree known .weights) (nodes known) (head .loop .n) (w .wide .result)
   child = record {
     lit = lit-here (start known .pre .0) (active known) (start known .pre .1) (start known .fits .active .fits) (are-active known);
     on = sym (w .before .before .before .has .ensures) ∙ w .before .before .if1 .taken;
@@ -120,7 +120,7 @@ module _ (w : tie.After-wide Inv-loop μ-loop) where
 
 -- the node's share
 share : (c : tie.After-portion Inv-loop μ-loop) → let w = c .before .before .before in
-    c .portion .result ≡ shareAmong (tree (known w)) (nodes (known w)) (head w .loop .node)
+    c .portion .result ≡ shareAmong (tree (known w)) (nodes (known w)) (head w .loop .n)
 share c =
     let w = c .before .before .before in
     share-stepped (child w) (above-is w) (c .before .heavy .ensures .0) (sum-is w) (c .portion .ensures)
@@ -202,8 +202,8 @@ mul-shares c = search needs
 array-write-shares : tie.Need-array-write-shares Inv-loop μ-loop
 array-write-shares c = search needs
 
-add-node : tie.Need-add-node Inv-loop μ-loop
-add-node c = search needs
+add-n : tie.Need-add-n Inv-loop μ-loop
+add-n c = search needs
 
 loop-less : tie.Need-loop-less Inv-loop μ-loop
 loop-less c = search needs
@@ -213,7 +213,7 @@ loop-again c =
     let h = c .before in
     let l = h .before .before in
     let s = l .before .before .before .before .before in
-    let n = l .loop .node in
+    let n = l .loop .n in
     let small : n < 64 = omega (arith, h .before .loop-test .taken, start s .pre .0 .most) in
     let step : (length (c .if1 .all) ≡ 64)
     × Shared (tree s) (nodes s) (c .if1 .all) (n + 1)
@@ -252,7 +252,7 @@ unfolding baseShares
 returns c =
     let l = c .before in
     let s = l .before .before .before .before .before in
-    let n = l .loop .node in
+    let n = l .loop .n in
     places-rest (baseShare (tree s) (active s)) (replicate 64 0) 0 refl (64 - n) n (omega (arith, l .loop .inv .4))
     (λ k m small.
     getD-replicate 64 k 0 0 small
@@ -285,7 +285,7 @@ base-shares-spec =
     own-requires
     mul-shares
     array-write-shares
-    add-node
+    add-n
     loop-less
     loop-again
     returns)
