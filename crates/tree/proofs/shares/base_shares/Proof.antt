@@ -35,7 +35,7 @@ Inv-loop active tree count nodes sums all₀ shares₀ n₀ all shares n =
     (0 < n) × (length all ≡ 64) × Shared tree nodes all n × (shares ≡ swept (table (baseShare tree active)) (replicate 64 0) n) × (n ≤ 64)
 
 abbrev μ-loop : tie.MeasureT-loop
-μ-loop active tree count nodes sums all₀ shares₀ n₀ all shares n = count - n
+μ-loop active tree count nodes sums all₀ shares₀ n₀ all shares n = 64 - n
 
 module _ (t : Tree) (nodes : ℕ) (all : List ℕ) (n : ℕ) (s : Shared t nodes all n) where
   idle : has nodes n ≡ false → Shared t nodes all (n + 1)
@@ -205,8 +205,12 @@ array-write-shares c = search needs
 add-n : tie.Need-add-n Inv-loop μ-loop
 add-n c = search needs
 
+-- the pass stays among the 64 places
+within : (l : tie.In-loop Inv-loop μ-loop) → l .before .loop .n < 64
+within l = omega (arith, l .loop-test .taken, start (l .before .before .before .before .before .before) .pre .0 .most)
+
 loop-less : tie.Need-loop-less Inv-loop μ-loop
-loop-less c = search needs
+loop-less c = omega (arith, within (c .before .before))
 
 loop-again : tie.Need-loop-again Inv-loop μ-loop
 loop-again c =
@@ -214,7 +218,7 @@ loop-again c =
     let l = h .before .before in
     let s = l .before .before .before .before .before in
     let n = l .loop .n in
-    let small : n < 64 = omega (arith, h .before .loop-test .taken, start s .pre .0 .most) in
+    let small : n < 64 = within (h .before) in
     let step : (length (c .if1 .all) ≡ 64)
     × Shared (tree s) (nodes s) (c .if1 .all) (n + 1)
     × (c .if1 .shares ≡ swept (table (baseShare (tree s) (active s))) (replicate 64 0) (n + 1)) =
