@@ -114,11 +114,16 @@ share-calls-hold = refl
 abbrev chain8 : ℕ → ℕ → Tree
 chain8 high low = tree 11 (0 ∷ 1 ∷ 2 ∷ 3 ∷ 4 ∷ 5 ∷ 6 ∷ 7 ∷ 0 ∷ 7 ∷ []) (replicate 8 1 ++ (high ∷ low ∷ []))
 
+-- the same, and the leaf is the last node
+abbrev chain8Last : ℕ → Tree
+chain8Last low = tree 11 (0 ∷ 1 ∷ 2 ∷ 3 ∷ 4 ∷ 5 ∷ 6 ∷ 0 ∷ 7 ∷ 7 ∷ []) (replicate 7 1 ++ (1023 ∷ low ∷ 1 ∷ []))
+
 pub thinAtDepth : List Case
 thinAtDepth =
     gives 0 (treeChecks (chain8 1023 1023)) ∷ gives 2 (treeChecks (chain8 1024 1023)) ∷ gives 2 (treeChecks (chain8 1023 1024))
     ∷ gives 0 (weightChecks 9 1023 (chain8 1024 1023)) ∷ gives 2 (weightChecks 9 1024 (chain8 1023 1023))
     ∷ gives 0 (weightChecks 10 1023 (chain8 1023 1024)) ∷ gives 2 (weightChecks 10 1024 (chain8 1023 1023))
+    ∷ gives 0 (treeChecks (chain8Last 1023)) ∷ gives 2 (treeChecks (chain8Last 1024))
     -- the weight of an inner node without a sibling moves nothing
     ∷ gives 0 (weightChecks 4 10000 (chain8 1023 1023))
     ∷ []
