@@ -1,4 +1,5 @@
-// Base shares: what each active leaf of a sound tree is worth, and whether a tree is so thin that some leaf could starve.
+// Base shares: what each active leaf of a sound tree is worth, and whether a tree is so thin that some leaf could starve. The
+// shares of all leaves come from one pass over the nodes; one share by itself, as at start, from a call on the parent.
 ghost use mathlib.Core.Path.{_≡_};
 ghost use mathlib.Core.Bool.{true, cond};
 ghost use Prim.Native.Nat.{ℕ, _*_, _^_, _<_};
@@ -92,8 +93,8 @@ fn child_sums<'a>(
     sums
 }
 
-// What a node has of the shares that are handed out: a leaf that is active its own, an inner node nothing.
-fn own(active: u64, node: usize, share: u64) -> u32
+// What an active node has of the shares that are handed out: a leaf its own, an inner node nothing.
+fn base_share(active: u64, node: usize, share: u64) -> u32
     requires { ⌜ (node < 64) × (share < 2 ^ 32) ⌝ }
     ensures { λ r. ⌜ r ≡ cond (member active node) share 0 ⌝ }
 {
@@ -109,23 +110,23 @@ pub fn base_shares(tree: Tree, active: u64) -> [u32; 64]
     let count = tree.count;
     let nodes = active_nodes(&tree.parents, count, active);
     let sums = child_sums(&tree.parents, &tree.weights, count, nodes);
-    let mut all = [0u64; 64];
-    all[0] = Controller::WHOLE;
+    let mut held = [0u64; 64];
+    held[0] = Controller::WHOLE;
     let mut shares = [0u32; 64];
     for n in 1..count {
         if has(nodes, n) {
             let parent = wide(tree.parents[n]);
-            let above = all[parent];
+            let above = held[parent];
             let sum = sums[parent];
             let share = portion(above, heavy(tree.weights[n]), sum);
-            all[n] = share;
-            shares[n] = own(active, n, share);
+            held[n] = share;
+            shares[n] = base_share(active, n, share);
         }
     }
     shares
 }
 
-// With all leaves active, is some leaf's share below the floor?
+// With all leaves active, is some leaf's share below the floor? At start each leaf is asked by itself, up to the first that is.
 pub(crate) fn thin(tree: Tree) -> bool
     requires { ⌜ SoundTree tree ⌝ }
     ensures { λ r. ⌜ r ≡ isThin tree ⌝ }
@@ -144,7 +145,7 @@ pub(crate) fn thin(tree: Tree) -> bool
     false
 }
 
-// The same of a tree in flight, where a weight changes: by the pass, so that it takes no longer than the shares anew.
+// The same of a tree in flight, where a weight changes: by the pass, as the shares anew are.
 pub(crate) fn thin_in_flight(tree: Tree) -> bool
     requires { ⌜ SoundTree tree ⌝ }
     ensures { λ r. ⌜ r ≡ isThin tree ⌝ }

@@ -1,15 +1,15 @@
--- Numbers of their own for shares on a tree of 8 levels, whose nodes are numbered so that none but the first few stands right
--- behind its parent: with all leaves active, with some, and behind each call that works them out anew; and the floor at level 8.
+-- Numbers of their own for shares on a tree of 8 levels, most of whose nodes do not stand right behind their parents: with all leaves
+-- active, with some, and behind each call that works them out anew; on the largest tree; and the floor at level 8.
 -- Assumes nothing.
 use mathlib.Core.Path.{_≡_, refl}
 use mathlib.Core.Bool.{true, false}
-use mathlib.Core.List.{List, [], _∷_, _++_}
-use Prim.Native.Nat.{ℕ}
-use lib.ListN.{replicate, take}
+use mathlib.Core.List.{List, [], _∷_, _++_, map}
+use Prim.Native.Nat.{ℕ, _+_, _-_, _^_}
+use lib.ListN.{replicate, take, drop}
 use Rattle.rules.specs.Numbers.{WHOLE}
 use Rattle.rules.specs.Words.{noNode}
 use Rattle.rules.specs.Units.{abs}
-use Rattle.rules.specs.Tree.{leavesOf, childSum, shareOf, baseShares}
+use Rattle.rules.specs.Tree.{leavesOf, childSum, shareOf, baseShare, baseShares}
 use Rattle.rules.specs.Budget.{emptyRow, fresh, rowAt, shareAt, withClock, withSharing, withBooks, withUsage, withAccepted}
 use Rattle.rules.specs.Refusals.{treeChecks, weightChecks}
 use Rattle.rules.specs.Entries.{submitted, planned, weighted}
@@ -17,7 +17,7 @@ use Rattle.rules.specs.declared.tree.Tree.{Tree}
 use Rattle.rules.specs.declared.budget.Row.{Row}
 use Rattle.rules.specs.declared.budget.Controller.{Controller}
 use Rattle.rules.specs.Bench.{computed, M, bio, tree, clockAt, saved, allRight, Case}
-use Rattle.rules.specs.Bench.Edges.{gives, Seen, see, allSame}
+use Rattle.rules.specs.Bench.Edges.{gives, star, Seen, see, allSame}
 
 -- inner nodes are 1, 3, 4, 6, 7, 9 and 10, each below the one before; leaves are 2, 5, 8, 13, 11, 15, 16 at the levels 1 to 7, and
 -- 12 and 14 at level 8
@@ -33,14 +33,18 @@ of8 active = take 17 (baseShares tree8 active)
 
 -- the shares of the inner nodes, and the sums of their active children's weights
 abbrev inner8 : ℕ → List ℕ
-inner8 active = shareOf tree8 active 1 ∷ shareOf tree8 active 3 ∷ shareOf tree8 active 4 ∷ shareOf tree8 active 6 ∷ shareOf tree8 active 7 ∷ shareOf tree8 active 9 ∷ shareOf tree8 active 10 ∷ []
+inner8 active = map (shareOf tree8 active) (1 ∷ 3 ∷ 4 ∷ 6 ∷ 7 ∷ 9 ∷ 10 ∷ [])
 
 abbrev sums8 : ℕ → List ℕ
-sums8 active = childSum tree8 active 0 ∷ childSum tree8 active 1 ∷ childSum tree8 active 3 ∷ childSum tree8 active 4 ∷ childSum tree8 active 6 ∷ childSum tree8 active 7 ∷ childSum tree8 active 9 ∷ childSum tree8 active 10 ∷ []
+sums8 active = map (childSum tree8 active) (0 ∷ 1 ∷ 3 ∷ 4 ∷ 6 ∷ 7 ∷ 9 ∷ 10 ∷ [])
+
+-- the same tree with a parent and a weight at the root, which mean nothing (DECISIONS 15)
+abbrev odd8 : Tree
+odd8 = record { count = 17; parents = 16 ∷ drop 1 (tree8 .parents); weights = 5 ∷ drop 1 (tree8 .weights) }
 
 pub shareNumbers : List Seen
 shareNumbers =
-    -- all leaves: none of the shares that their nodes lie below is a whole number of parts, so each level rounds once more
+    -- all leaves: no node's share comes out whole, so each level rounds once more
     see (leavesOf tree8 ∷ []) (129316 ∷ [])
     ∷ see (sums8 129316) (1000 ∷ 750 ∷ 800 ∷ 1000 ∷ 1150 ∷ 850 ∷ 1030 ∷ 400 ∷ [])
     ∷ see (inner8 129316) (751619276 ∷ 501079517 ∷ 375809637 ∷ 338228673 ∷ 235289511 ∷ 110724475 ∷ 107499490 ∷ [])
@@ -51,12 +55,16 @@ shareNumbers =
     -- a leaf at level 1 and one at level 8
     ∷ see (sums8 16388) (1000 ∷ 500 ∷ 600 ∷ 900 ∷ 800 ∷ 400 ∷ 1000 ∷ 250 ∷ [])
     ∷ see (of8 16388) (0 ∷ 0 ∷ 322122547 ∷ replicate 11 0 ++ (751619276 ∷ 0 ∷ 0 ∷ []))
-    -- leaves at the levels 2 to 6: nodes 9 and 10 are not active, and neither counts below 7
+    -- leaves at the levels 2 to 6: nodes 9 and 10 are not active, so 9 does not count below 7, nor 10 below 9
     ∷ see (sums8 43296) (700 ∷ 750 ∷ 800 ∷ 1000 ∷ 1150 ∷ 450 ∷ 0 ∷ 0 ∷ [])
     ∷ see (of8 43296)
     (replicate 5 0 ++ (357913941 ∷ 0 ∷ 0 ∷ 178956970 ∷ 0 ∷ 0 ∷ 147055944 ∷ 0 ∷ 53687091 ∷ 0 ∷ 336127874 ∷ 0 ∷ []))
-    -- no leaf: the root has its share, and nobody else
+    -- with no leaf active nobody has a share; the root of `odd8` is nobody's child
     ∷ see (of8 noNode) (replicate 17 0)
+    ∷ see (map (childSum odd8 16388) (0 ∷ 9 ∷ [])) (1000 ∷ 1000 ∷ [])
+    -- 63 leaves below the root: the last node alone, and with node 1
+    ∷ see (leavesOf (star 63) ∷ childSum (star 63) (2 ^ 63) 0 ∷ baseShare (star 63) (2 ^ 63) 63 ∷ baseShare (star 63) (2 ^ 63 + 2) 63 ∷ [])
+    ((2 ^ 64 - 2) ∷ 1 ∷ WHOLE ∷ 536870912 ∷ [])
     ∷ []
 
 pub share-numbers-hold : allSame shareNumbers ≡ true
@@ -74,7 +82,7 @@ state8 active donors shares rows =
 -- leaves 2 and 14 are active and 2 gives; all three are, and nobody gives
 abbrev giving8 : Controller
 giving8 =
-    state8 16388 4 (0 ∷ 0 ∷ 100000000 ∷ replicate 11 0 ++ (973741824 ∷ 0 ∷ 0 ∷ [])) (rows8 (saved 1000000) emptyRow (saved 500000))
+    state8 16388 4 (0 ∷ 0 ∷ 100000000 ∷ replicate 11 0 ++ (973741823 ∷ 0 ∷ 0 ∷ [])) (rows8 (saved 1000000) emptyRow (saved 500000))
 
 abbrev three8 : Controller
 three8 = state8 20484 noNode (baseShares tree8 20484) (rows8 (saved 1000000) (saved 700000) (saved 500000))

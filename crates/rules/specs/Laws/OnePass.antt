@@ -1,5 +1,5 @@
--- Request Five: each share comes from the parent's, and that alone says what every share is. So the pass over the nodes, by which
--- all are worked out, and the call on the parent, by which one is, give the same.
+-- Request Five: the root's share, and each share from the parent's, fix the share of every active node. So whatever works shares out
+-- like that, in any order, works out those of the rules.
 -- Assumes nothing.
 use mathlib.Core.Path.{_≡_, sym, _∙_}
 use mathlib.Core.Bool.{true}

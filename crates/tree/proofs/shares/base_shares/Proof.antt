@@ -13,11 +13,11 @@ use lib.Seq.{getD-set-same, getD-set-other}
 use borrow.Author.Needs.{needs}
 use borrow.Author.Tests.{eqb-true, eqb-false}
 use Rattle.rules.specs.Words.{has, setOf, table}
-use Rattle.rules.specs.Tree.{isLeaf, isActive, shareOf, baseShare, baseShares}
+use Rattle.rules.specs.Tree.{isActive, shareOf, baseShare, baseShares}
 use Rattle.rules.specs.declared.tree.Tree.{Tree}
 use Rattle.rules.specs.Laws.Bools.{true-not-false, is-false}
 use Rattle.rules.specs.Laws.Sweeps.{swept, place-put, place-skip, places-rest}
-use Rattle.rules.specs.Laws.Trees.{leaf-pos, leaf-last}
+use Rattle.rules.specs.Laws.Trees.{no-root-within, leaf-last}
 use Rattle.rules.specs.Laws.Shares.{no-base-share}
 use Rattle.tree.specs.View.{childSumIn, shareAmong}
 use Rattle.tree.proofs.View.{last-at}
@@ -28,29 +28,29 @@ use Rattle.tree.proofs.shares.base_shares.Tie as tie
 
 -- the active nodes below n have their shares
 abbrev Shared : Tree → ℕ → List ℕ → ℕ → Type 0
-Shared t nodes all n = (k : ℕ) → k < n → has nodes k ≡ true → getD all k 0 ≡ shareAmong t nodes k
+Shared t nodes held n = (k : ℕ) → k < n → has nodes k ≡ true → getD held k 0 ≡ shareAmong t nodes k
 
 abbrev Inv-loop : tie.InvT-loop
-Inv-loop active tree count nodes sums all₀ shares₀ n₀ all shares n =
-    (0 < n) × (length all ≡ 64) × Shared tree nodes all n × (shares ≡ swept (table (baseShare tree active)) (replicate 64 0) n) × (n ≤ 64)
+Inv-loop active tree count nodes sums held₀ shares₀ n₀ held shares n =
+    (0 < n) × (length held ≡ 64) × Shared tree nodes held n × (shares ≡ swept (table (baseShare tree active)) (replicate 64 0) n) × (n ≤ 64)
 
 abbrev μ-loop : tie.MeasureT-loop
-μ-loop active tree count nodes sums all₀ shares₀ n₀ all shares n = 64 - n
+μ-loop active tree count nodes sums held₀ shares₀ n₀ held shares n = 64 - n
 
-module _ (t : Tree) (nodes : ℕ) (all : List ℕ) (n : ℕ) (s : Shared t nodes all n) where
-  idle : has nodes n ≡ false → Shared t nodes all (n + 1)
+module _ (t : Tree) (nodes : ℕ) (held : List ℕ) (n : ℕ) (s : Shared t nodes held n) where
+  idle : has nodes n ≡ false → Shared t nodes held (n + 1)
   idle off k l on = go (eqb k n) refl
     where
-      go : (b : Bool) → eqb k n ≡ b → getD all k 0 ≡ shareAmong t nodes k
+      go : (b : Bool) → eqb k n ≡ b → getD held k 0 ≡ shareAmong t nodes k
       go true b = let e : k ≡ n = eqb-true k n b in absurd (true-not-false on (rw e off))
       go false b = let i : (k ≡ n → ⊥) = eqb-false k n b in s k (omega arith) on
 
-  puts : (r : ℕ) → n < length all → r ≡ shareAmong t nodes n → Shared t nodes (set all n r) (n + 1)
+  puts : (r : ℕ) → n < length held → r ≡ shareAmong t nodes n → Shared t nodes (set held n r) (n + 1)
   puts r h e k l on = go (eqb k n) refl
     where
-      go : (b : Bool) → eqb k n ≡ b → getD (set all n r) k 0 ≡ shareAmong t nodes k
-      go true b = let i : k ≡ n = eqb-true k n b in rw i (getD-set-same all n r 0 h ∙ e)
-      go false b = let i : (k ≡ n → ⊥) = eqb-false k n b in getD-set-other all n k r 0 i ∙ s k (omega arith) on
+      go : (b : Bool) → eqb k n ≡ b → getD (set held n r) k 0 ≡ shareAmong t nodes k
+      go true b = let i : k ≡ n = eqb-true k n b in rw i (getD-set-same held n r 0 h ∙ e)
+      go false b = let i : (k ≡ n → ⊥) = eqb-false k n b in getD-set-other held n k r 0 i ∙ s k (omega arith) on
 
 -- ---- what is known once the active nodes are
 module _ (s : tie.After-active-nodes Inv-loop μ-loop) where
@@ -74,10 +74,6 @@ module _ (s : tie.After-active-nodes Inv-loop μ-loop) where
   no-leaf n l off =
       is-false (has active n) (λ on.
       true-not-false (leaf-asks (start .pre .0) active (start .pre .1) (start .fits .active .fits) are-active n on l .1) off)
-
-  -- only an active leaf has a base share
-  none-for : (n : ℕ) → (isLeaf tree n ≡ true → ⊥) → 0 ≡ baseShare tree active n
-  none-for n no-leaf-here = sym (no-base-share tree active n (is-false (has active n) (λ on. no-leaf-here (start .pre .1 n on))))
 
   -- the share among the active nodes is the base share
   base-is : (n : ℕ) {r x : ℕ} → x ≡ shareAmong tree nodes n → r ≡ cond (has active n) x 0 → r ≡ baseShare tree active n
@@ -110,7 +106,7 @@ module _ (w : tie.After-wide Inv-loop μ-loop) where
   inside : w .wide .result < 64
   inside = parent-inside child
 
-  above-is : getD (head .loop .all) (w .wide .result) 0 ≡ shareAmong (tree known) (nodes known) (w .wide .result)
+  above-is : getD (head .loop .held) (w .wide .result) 0 ≡ shareAmong (tree known) (nodes known) (w .wide .result)
   above-is =
       let p = parent-asks child refl in
       head .loop .inv .2 (w .wide .result) (p .0) (p .1 .1)
@@ -136,8 +132,8 @@ child-sums-requires c κs =
     let at = start s in
     lit-here (at .pre .0) (at .args .active) (at .pre .1) (at .fits .active .fits) (are-active s)
 
-array-write-all : tie.Need-array-write-all Inv-loop μ-loop
-array-write-all c = search needs
+array-write-held : tie.Need-array-write-held Inv-loop μ-loop
+array-write-held c = search needs
 
 loop-holds : tie.Need-loop-holds Inv-loop μ-loop
 loop-holds c =
@@ -146,7 +142,7 @@ loop-holds c =
       refl,
       λ k l on. let z : k ≡ 0 = omega arith in rw z (root-share (tree s) (nodes s) 0 refl),
       place-skip (baseShare (tree s) (active s)) (replicate 64 0) (replicate 64 0) 0 0 refl refl (omega arith)
-          (none-for s 0 (λ leaf. omega (arith, leaf-pos (tree s) 0 leaf))),
+          (sym (no-base-share (tree s) (active s) 0 (no-root-within (tree s) (active s) (start s .pre .1)))),
       omega arith,
     )
 
@@ -185,14 +181,14 @@ portion-requires c κs =
     let w = c .before .before in
     (share-fits (child w) (above-is w) (c .heavy .ensures .1), some-weight (child w) (sum-is w))
 
-mul-all : tie.Need-mul-all Inv-loop μ-loop
-mul-all c = search needs
+mul-held : tie.Need-mul-held Inv-loop μ-loop
+mul-held c = search needs
 
-array-write-all-2 : tie.Need-array-write-all-2 Inv-loop μ-loop
-array-write-all-2 c = search needs
+array-write-held-2 : tie.Need-array-write-held-2 Inv-loop μ-loop
+array-write-held-2 c = search needs
 
-own-requires : tie.Need-own-requires Inv-loop μ-loop
-own-requires c κs =
+base-share-requires : tie.Need-base-share-requires Inv-loop μ-loop
+base-share-requires c κs =
     let w = c .before .before .before in
     (search needs, omega (arith, share-most (child w) (share c)))
 
@@ -219,8 +215,8 @@ loop-again c =
     let s = l .before .before .before .before .before in
     let n = l .loop .n in
     let small : n < 64 = within (h .before) in
-    let step : (length (c .if1 .all) ≡ 64)
-    × Shared (tree s) (nodes s) (c .if1 .all) (n + 1)
+    let step : (length (c .if1 .held) ≡ 64)
+    × Shared (tree s) (nodes s) (c .if1 .held) (n + 1)
     × (c .if1 .shares ≡ swept (table (baseShare (tree s) (active s))) (replicate 64 0) (n + 1)) =
     ⊎-elim
     (λ w.
@@ -235,8 +231,8 @@ loop-again c =
       portion = w .5;
     } in
     rw (w .7, w .8) (
-      length-set (l .loop .all) n _ ∙ l .loop .inv .1,
-      puts (tree s) (nodes s) (l .loop .all) n (l .loop .inv .2) _ (omega (arith, l .loop .inv .1)) (share at),
+      length-set (l .loop .held) n _ ∙ l .loop .inv .1,
+      puts (tree s) (nodes s) (l .loop .held) n (l .loop .inv .2) _ (omega (arith, l .loop .inv .1)) (share at),
       place-put (baseShare (tree s) (active s)) (replicate 64 0) (l .loop .shares) n 0 refl (l .loop .inv .3) small (w .6 .result)
           (base-is s n (share at) (w .6 .ensures)),
     ))
@@ -244,7 +240,7 @@ loop-again c =
     let off = sym (h .has .ensures) ∙ w .0 .left in
     rw (w .1, w .2) (
       l .loop .inv .1,
-      idle (tree s) (nodes s) (l .loop .all) n (l .loop .inv .2) off,
+      idle (tree s) (nodes s) (l .loop .held) n (l .loop .inv .2) off,
       place-skip (baseShare (tree s) (active s)) (replicate 64 0) (l .loop .shares) n 0 refl (l .loop .inv .3) small
           (getD-replicate 64 n 0 0 small ∙ sym (no-base-share (tree s) (active s) n (no-leaf s n small off))),
     ))
@@ -260,7 +256,9 @@ returns c =
     places-rest (baseShare (tree s) (active s)) (replicate 64 0) 0 refl (64 - n) n (omega (arith, l .loop .inv .4))
     (λ k m small.
     getD-replicate 64 k 0 0 small
-    ∙ none-for s k (λ leaf. omega (arith, leaf-pos (tree s) k leaf, rw (last-at (tree s .count) (tree s .parents) (tree s .weights)) at (leaf-last (tree s) k leaf), c .loop-test .left)))
+    ∙ sym (no-base-share (tree s) (active s) k (is-false (has (active s) k) (λ on.
+    let z : k ≤ tree s .count - 1 = rw (last-at (tree s .count) (tree s .parents) (tree s .weights)) at (leaf-last (tree s) k (start s .pre .1 k on)) in
+    omega (arith, z, l .loop .inv .0, c .loop-test .left)))))
     (l .loop .shares) (l .loop .inv .3)
 
 pub base-shares-spec : {M : Type 1} → statement M
@@ -271,7 +269,7 @@ base-shares-spec =
     μ-loop
     active-nodes-requires
     child-sums-requires
-    array-write-all
+    array-write-held
     loop-holds
     has-requires
     element-copy-out-wide
@@ -284,9 +282,9 @@ base-shares-spec =
     element-copy-out-heavy
     heavy-requires
     portion-requires
-    mul-all
-    array-write-all-2
-    own-requires
+    mul-held
+    array-write-held-2
+    base-share-requires
     mul-shares
     array-write-shares
     add-n

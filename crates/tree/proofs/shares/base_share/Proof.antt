@@ -1,9 +1,9 @@
--- `shares::own` meets its contract.
+-- `shares::base_share` meets its contract.
 -- Assumes nothing.
 use mathlib.Core.Path.{sym, _∙_}
 use borrow.Author.Needs.{needs}
-use Rattle.tree.proofs.shares.own.Statement.{statement}
-use Rattle.tree.proofs.shares.own.Tie as tie
+use Rattle.tree.proofs.shares.base_share.Statement.{statement}
+use Rattle.tree.proofs.shares.base_share.Tie as tie
 
 has-requires : tie.Need-has-requires
 has-requires c κs = search needs
@@ -17,5 +17,5 @@ returns c = rw (sym (c .before .has .ensures) ∙ c .if1 .taken)
 returns-2 : tie.Need-returns-2
 returns-2 c = rw (sym (c .before .has .ensures) ∙ c .if1 .left)
 
-pub own-spec : {M : Type 1} → statement M
-own-spec = tie.close (tie.spec has-requires cast-result returns returns-2)
+pub base-share-spec : {M : Type 1} → statement M
+base-share-spec = tie.close (tie.spec has-requires cast-result returns returns-2)
