@@ -8,5 +8,6 @@ pub mod growth;
 mod moves;
 pub mod random;
 pub mod setup;
+pub mod shape;
 mod state;
 pub mod style;
