@@ -9,6 +9,7 @@ use crate::generator::style::Style;
 /// mistakes apart come first. Setup faults come one to a trace, so traces of
 /// `trees` and short ones are the most numerous.
 const TRACES: &[(Style, u64, u64)] = &[
+    (Style::Shares, 60, 300),
     (Style::Weights, 25, 10_000),
     (Style::Long, 25, 10_000),
     (Style::Deep, 8, 12_000),

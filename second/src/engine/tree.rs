@@ -131,6 +131,15 @@ impl Tree {
         self.parents[node]
     }
 
+    /// The child of the root that a node is or lies below.
+    pub fn branch_of(&self, node: usize) -> usize {
+        let mut top = node;
+        while self.parents[top] != 0 {
+            top = self.parents[top];
+        }
+        top
+    }
+
     /// Whether no node has a higher number.
     pub fn is_last(&self, node: usize) -> bool {
         node + 1 == self.count

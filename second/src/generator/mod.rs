@@ -11,3 +11,4 @@ pub mod setup;
 pub mod shape;
 mod state;
 pub mod style;
+mod woven;

@@ -176,7 +176,7 @@ pub fn good_tree(random: &mut Random) -> Nodes {
     nodes.iter().map(|&(parent, _)| (parent, 100)).collect()
 }
 
-fn is_good(nodes: &[Node]) -> bool {
+pub fn is_good(nodes: &[Node]) -> bool {
     let mut tree = Tree::new();
     nodes
         .iter()
