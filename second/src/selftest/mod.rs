@@ -5,6 +5,7 @@
 mod clock;
 mod flush;
 mod growth;
+mod shares;
 mod trees;
 
 use std::fmt::Debug;
@@ -46,7 +47,7 @@ impl Checks {
 }
 
 /// Fewer checks are no test: a loop over nothing is no success.
-const LEAST: u64 = 6_030;
+const LEAST: u64 = 6_265;
 
 /// A group of checks; a refusal ends it where none belongs.
 type Group = fn(&mut Checks) -> Result<(), Refusal>;
@@ -60,6 +61,9 @@ const GROUPS: &[(&str, Group)] = &[
     ("costs from outside", outside_costs),
     ("presets of Linux", linux_prices),
     ("shares from outside", outside_shares),
+    ("shares in one pass", shares::passes),
+    ("thin trees", shares::thin_trees),
+    ("noticed shares", shares::noticed),
     ("virtual time limit", virtual_time_limit),
     ("order of refusals at a tick", tick_refusal_order),
     ("release buffer", release_buffer),
@@ -108,6 +112,7 @@ pub fn run(out: &mut impl Write) -> io::Result<bool> {
         }
     }
     growth::traces(&mut checks)?;
+    shares::generated(&mut checks)?;
     noticed_faults(&mut checks)?;
     let made = checks.passed + checks.failures.len() as u64;
     if made < LEAST {
