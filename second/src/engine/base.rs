@@ -25,7 +25,7 @@ pub(super) enum Call<'a> {
 #[derive(Clone, Debug, PartialEq, Eq)]
 pub(super) struct Passes {
     /// The share of each node when it was last worked out.
-    pub(super) shares: Shares,
+    shares: Shares,
     /// The nodes that were active at any of them.
     active: u64,
     /// The leaves that the last plan made inactive.
@@ -116,7 +116,7 @@ impl Controller {
             (Mutant::ActivationOfBranch, Call::Activation(node))
             | (Mutant::EndOfBranch, Call::End(node))
             | (Mutant::WeightOfBranch, Call::Weight(node, _)) => tree.leaves_of(tree.parent(node)),
-            _ => tree.leaves(),
+            _ => u64::MAX,
         }
     }
 
