@@ -33,11 +33,21 @@ impl Tree {
         let mut active = active_leaves;
         let mut of = [0; MAX_NODES];
         for node in (1..self.count()).rev() {
-            if is_member(active, node) && self.marks(node, active_leaves, rules) {
-                active |= 1 << self.parent(node);
+            let parent = self.parent(node);
+            let is_active = is_member(active, node);
+            let (marks, counts, summed) = match rules.mutant() {
+                None => (is_active, is_active, parent),
+                Some(mutant) => (
+                    is_active && self.marks_by(mutant, node, active_leaves),
+                    self.counts_by(mutant, node, is_active),
+                    self.summed_by(mutant, node),
+                ),
+            };
+            if marks {
+                active |= 1 << parent;
             }
-            if self.counts(node, active, rules) {
-                of[self.summed_for(node, rules)] += u64::from(self.weight(node));
+            if counts {
+                of[summed] += u64::from(self.weight(node));
             }
         }
         Sums { active, of }
@@ -49,7 +59,11 @@ impl Tree {
         shares[0] = WHOLE;
         let mut before = 0;
         for node in members(sums.active & !1) {
-            let (share, sum) = self.divided(node, before, &shares, sums, rules);
+            let parent = self.parent(node);
+            let (share, sum) = match rules.mutant() {
+                None => (shares[parent], sums.of[parent]),
+                Some(mutant) => self.divided_by(mutant, node, before, &shares, sums),
+            };
             let weight = u64::from(self.weight(node));
             // The weights of a tree that is only tried may sum to 0.
             shares[node] = rules.floor(Mutant::ShareRoundedUp, share, weight, sum.max(1));
@@ -60,59 +74,57 @@ impl Tree {
 
     /// Whether an active node makes its parent active: each does, but under a
     /// mutant.
-    fn marks(&self, node: usize, active_leaves: u64, rules: Rules) -> bool {
-        match rules.mutant() {
-            Some(Mutant::MarkedOneStep) => is_member(active_leaves, node),
-            Some(Mutant::LastNodeMarksNothing) => !self.is_last(node),
+    fn marks_by(&self, mutant: Mutant, node: usize, active_leaves: u64) -> bool {
+        match mutant {
+            Mutant::MarkedOneStep => is_member(active_leaves, node),
+            Mutant::LastNodeMarksNothing => !self.is_last(node),
             _ => true,
         }
     }
 
     /// Whether a node's weight is in a sum: that of an active one is, but
     /// under a mutant.
-    fn counts(&self, node: usize, active: u64, rules: Rules) -> bool {
-        let active = is_member(active, node);
-        match rules.mutant() {
-            Some(Mutant::SumOfAllChildren) => true,
-            Some(Mutant::InactiveInnerCounts) => active || self.is_inner(node),
-            Some(Mutant::InactiveLeafCounts) => active || !self.is_inner(node),
-            Some(Mutant::LastNodeNotSummed) => active && !self.is_last(node),
-            Some(Mutant::Node63NotSummed) => active && node + 1 < MAX_NODES,
+    fn counts_by(&self, mutant: Mutant, node: usize, active: bool) -> bool {
+        match mutant {
+            Mutant::SumOfAllChildren => true,
+            Mutant::InactiveInnerCounts => active || self.is_inner(node),
+            Mutant::InactiveLeafCounts => active || !self.is_inner(node),
+            Mutant::LastNodeNotSummed => active && !self.is_last(node),
+            Mutant::Node63NotSummed => active && node + 1 < MAX_NODES,
             _ => active,
         }
     }
 
     /// The node to whose sum a weight goes: the parent, but under a mutant.
-    fn summed_for(&self, node: usize, rules: Rules) -> usize {
-        if rules.changed(Mutant::WeightSummedBefore) {
-            self.parent(node - 1)
-        } else {
-            self.parent(node)
+    fn summed_by(&self, mutant: Mutant, node: usize) -> usize {
+        match mutant {
+            Mutant::WeightSummedBefore => self.parent(node - 1),
+            _ => self.parent(node),
         }
     }
 
     /// The share that a node has a part of, and the sum that its weight is
     /// part of: its parent's, but under a mutant. `before` is the node worked
     /// out before it.
-    fn divided(
+    fn divided_by(
         &self,
+        mutant: Mutant,
         node: usize,
         before: usize,
         shares: &Shares,
         sums: &Sums,
-        rules: Rules,
     ) -> (u64, u64) {
         let parent = self.parent(node);
         let above = self.parent(parent);
         let (share, sum) = (shares[parent], sums.of[parent]);
-        match rules.mutant() {
-            Some(Mutant::ShareOfWhole) => (WHOLE, sum),
-            Some(Mutant::ShareOfNodeBefore) if parent != 0 => (shares[before], sum),
-            Some(Mutant::ShareOfGrandparent) => (shares[above], sum),
-            Some(Mutant::SumOfRoot) => (share, sums.of[0]),
-            Some(Mutant::SumOfGrandparent) => (share, sums.of[above]),
-            Some(Mutant::SumOfNodeBefore) => (share, sums.of[self.parent(before)]),
-            Some(Mutant::SumUpToNode) => (share, self.sum_up_to(node, sums.active)),
+        match mutant {
+            Mutant::ShareOfWhole => (WHOLE, sum),
+            Mutant::ShareOfNodeBefore if parent != 0 => (shares[before], sum),
+            Mutant::ShareOfGrandparent => (shares[above], sum),
+            Mutant::SumOfRoot => (share, sums.of[0]),
+            Mutant::SumOfGrandparent => (share, sums.of[above]),
+            Mutant::SumOfNodeBefore => (share, sums.of[self.parent(before)]),
+            Mutant::SumUpToNode => (share, self.sum_up_to(node, sums.active)),
             _ => (share, sum),
         }
     }
