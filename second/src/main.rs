@@ -21,7 +21,8 @@ use comparison::tally::Tally;
 use comparison::{against, cases, compare, expose, robust};
 use engine::rules::{Mutant, Rules};
 use generator::generate::generate;
-use generator::growth::{growth, Kind, MOST_LEAVES};
+use generator::growth::{growth, Kind};
+use generator::shape::Shape;
 use generator::style::Style;
 use observation::census::Census;
 use text::tool;
@@ -32,7 +33,8 @@ const USAGE: &str = "usage: second COMMAND
   text [FILE]                   list a trace as text
   bytes [FILE]                  make a trace from text
   gen SEED [RECORDS] [STYLE]    generate a trace
-  growth KIND LEAVES ROUNDS     write a trace for bench/growth
+  growth KIND LEAVES ROUNDS [LEVELS]
+                                write a trace for bench/growth or bench/shares
   census [FILE...]              count what traces reach
   compare OURS THEIRS TRACE     compare two outputs of a trace
   mutants                       list the mutants
@@ -84,7 +86,8 @@ fn run(words: &[&str]) -> Done {
         }
         ["gen", seed, records] => generate_trace(seed, Some(*records), None),
         ["gen", seed, records, style] => generate_trace(seed, Some(*records), Some(*style)),
-        ["growth", kind, leaves, rounds] => growth_trace(kind, leaves, rounds),
+        ["growth", kind, leaves, rounds] => growth_trace(kind, leaves, rounds, "1"),
+        ["growth", kind, leaves, rounds, levels] => growth_trace(kind, leaves, rounds, levels),
         ["census", files @ ..] => take_census(files),
         ["compare", ours, theirs, trace] => compare_outputs(ours, theirs, trace),
         ["against", ours, rest @ ..] => {
@@ -225,13 +228,10 @@ fn generate_trace(seed: &str, records: Option<&str>, style: Option<&str>) -> Don
     Ok(true)
 }
 
-fn growth_trace(kind: &str, leaves: &str, rounds: &str) -> Done {
+fn growth_trace(kind: &str, leaves: &str, rounds: &str, levels: &str) -> Done {
     let kind = Kind::named(kind).ok_or_else(|| format!("'{}' is no kind", kind))?;
-    let leaves = number(leaves)?;
-    if !(1..=MOST_LEAVES).contains(&leaves) {
-        return Err(format!("there are 1 to {} leaves", MOST_LEAVES));
-    }
-    growth(kind, leaves, number(rounds)?, &mut output()).map_err(said)?;
+    let shape = Shape::new(number(leaves)?, number(levels)?)?;
+    growth(kind, shape, number(rounds)?, &mut output()).map_err(said)?;
     Ok(true)
 }
 

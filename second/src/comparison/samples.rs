@@ -6,8 +6,9 @@ use crate::generator::generate::generate;
 use crate::generator::style::Style;
 
 /// Styles, how many traces of each, and their records. Those that tell most
-/// mistakes apart come first. Setup faults come one to a trace, so traces of
-/// `trees` and short ones are the most numerous.
+/// mistakes apart come first, and last come those of deep trees, which tell
+/// apart what hardly any other does. Setup faults come one to a trace, so traces
+/// of `trees` and short ones are the most numerous.
 const TRACES: &[(Style, u64, u64)] = &[
     (Style::Weights, 25, 10_000),
     (Style::Long, 25, 10_000),
@@ -23,6 +24,7 @@ const TRACES: &[(Style, u64, u64)] = &[
     (Style::Noise, 120, 300),
     (Style::Trees, 700, 40),
     (Style::Short, 900, 40),
+    (Style::Shares, 60, 300),
 ];
 
 /// A generated trace of the comparison.

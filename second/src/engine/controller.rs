@@ -1,17 +1,20 @@
 //! The controller: start, submit, tick and plan. The clock, which says how far
-//! a tick goes, a weight and what is special of a flush are next door.
+//! a tick goes, base shares, a weight and what is special of a flush are next
+//! door.
 //!
 //! Every call first finds its answer or its refusal without changing
 //! anything, and only then changes the state; a refused call so leaves the
 //! controller and any lent buffer as they were.
 
+use crate::engine::base::{Call, Passes};
 use crate::engine::clock::{fresh_remainder, FRESH_VRATE};
 use crate::engine::cost::{is_sequential, Bio, Model, Rates, MAX_COST};
 use crate::engine::leaf::{Leaf, QUEUE_ROOM};
 use crate::engine::numbers::{floor, is_member, members, Absolute, Relative, WHOLE};
 use crate::engine::refusal::Refusal;
 use crate::engine::rules::{Mutant, Rules};
-use crate::engine::tree::{Node, Shares, Tree, MAX_NODES, SHARE_FLOOR};
+use crate::engine::shares::{Shares, SHARE_FLOOR};
+use crate::engine::tree::{Node, Tree, MAX_NODES};
 
 /// The most bios that can wait over all leaves.
 pub const MAX_WAITING: usize = (MAX_NODES - 1) * QUEUE_ROOM;
@@ -61,6 +64,7 @@ pub(super) struct Aside {
     pub(super) vrate: Option<u16>,
     /// The tree as the setup gave it.
     pub(super) tree: Tree,
+    pub(super) passes: Passes,
     /// The leaves with an accepted flush.
     pub(super) flushed: u64,
 }
@@ -90,6 +94,7 @@ impl Controller {
             rest_of_period: 0,
             vrate: None,
             tree: tree.clone(),
+            passes: Passes::new(&tree),
             flushed: 0,
         };
         Ok(Controller {
@@ -140,7 +145,7 @@ impl Controller {
             Answer::OnDebt => leaf.owe(cost, flush, self.rules),
         }
         if self.ends_donation(number, answer, flush) {
-            self.return_to_base();
+            self.return_to_base(number);
         }
         Ok(answer)
     }
@@ -312,10 +317,10 @@ impl Controller {
     /// A new active leaf starts with nothing and ends any donation.
     fn activate(&mut self, number: usize) {
         if self.rules.changed(Mutant::ActivationThroughBase) {
-            self.return_to_base();
+            self.return_to_base(number);
         }
         self.active |= 1 << number;
-        let shares = self.base_shares(Mutant::ActivationBySetup);
+        let shares = self.base_shares(Call::Activation(number));
         let leaf = &mut self.leaves[number];
         let keeps = self.rules.changed(Mutant::InactiveKeepsBudget)
             || self.rules.changed(Mutant::InactiveGains);
@@ -347,21 +352,11 @@ impl Controller {
         giver && ends
     }
 
-    pub(super) fn return_to_base(&mut self) {
+    /// Ends the donation, by what a leaf was answered.
+    pub(super) fn return_to_base(&mut self, number: usize) {
         self.donors = 0;
-        let shares = self.base_shares(Mutant::EndBySetup);
+        let shares = self.base_shares(Call::End(number));
         self.set_shares(&shares, Mutant::BudgetKeptAtEnd);
-    }
-
-    /// The base shares of the active leaves by the tree in force, or by that
-    /// of the setup under the mutant of the call.
-    fn base_shares(&self, by_setup: Mutant) -> Shares {
-        let tree = if self.rules.changed(by_setup) {
-            &self.aside.tree
-        } else {
-            &self.tree
-        };
-        tree.base_shares(self.active, self.rules)
     }
 
     /// Each call sets shares at most once, so the share a leaf has here is
@@ -447,7 +442,7 @@ impl Controller {
             }
         }
         self.retire_idle();
-        let base = self.base_shares(Mutant::PlanBySetup);
+        let base = self.base_shares(Call::Plan(was_active));
         let mut shares = base;
         self.donors = self.donate(&mut shares, was_active);
         self.close_plan(&base, &shares, was_active);
@@ -608,7 +603,7 @@ impl Controller {
         let mut pool = if self.rules.changed(Mutant::PoolOfWhole) {
             WHOLE
         } else {
-            base_of_all
+            base_of_all + self.share_of_others()
         };
         for number in members(donors) {
             shares[number] = self.target(&self.leaves[number]);

@@ -1,6 +1,6 @@
-//! The weight tree and its base shares.
+//! The weight tree, and what is wrong with one. Its base shares are next door.
 
-use crate::engine::numbers::{is_member, members, WHOLE};
+use crate::engine::numbers::is_member;
 use crate::engine::refusal::{Fault, Refusal};
 use crate::engine::rules::{Mutant, Rules};
 
@@ -9,11 +9,6 @@ const MIN_NODES: u64 = 2;
 pub const MAX_NODES: usize = 64;
 pub const MAX_LEVEL: u8 = 8;
 pub const MAX_WEIGHT: u16 = 10_000;
-/// A leaf's share below this makes the tree thin; a donor keeps this much.
-pub const SHARE_FLOOR: u64 = 1_024;
-
-/// Shares by node number; only those of active nodes have a meaning.
-pub type Shares = [u64; MAX_NODES];
 
 /// The mutants under which 0, not 10,000 and also 10,001 is a weight.
 struct WeightMutants {
@@ -129,6 +124,25 @@ impl Tree {
 
     pub fn level(&self, node: usize) -> u8 {
         self.levels[node]
+    }
+
+    /// The parent of a node; the root counts as its own.
+    pub fn parent(&self, node: usize) -> usize {
+        self.parents[node]
+    }
+
+    /// The child of the root that a node is or lies below.
+    pub fn branch_of(&self, node: usize) -> usize {
+        let mut top = node;
+        while self.parents[top] != 0 {
+            top = self.parents[top];
+        }
+        top
+    }
+
+    /// Whether no node has a higher number.
+    pub fn is_last(&self, node: usize) -> bool {
+        node + 1 == self.count
     }
 
     /// The tree of a list with the root in front, where nothing is looked at;
@@ -259,56 +273,6 @@ impl Tree {
             let named = u8::from(rules.changed(Mutant::StartNamesFirst));
             return Err(Refusal::Tree(fault, named));
         }
-        self.check_thin(rules)
-    }
-
-    /// Refusal 2.
-    pub fn check_thin(&self, rules: Rules) -> Result<(), Refusal> {
-        let least = rules.limit(Mutant::ThinOneLess, Mutant::ThinOneMore, SHARE_FLOOR);
-        if self.smallest_share(rules) < least {
-            return Err(Refusal::Thin);
-        }
-        Ok(())
-    }
-
-    /// The smallest share of a leaf with all leaves active.
-    pub fn smallest_share(&self, rules: Rules) -> u64 {
-        self.smallest_of(self.leaves, self.leaves, rules)
-    }
-
-    /// The smallest share of some leaves with a set of leaves active.
-    pub fn smallest_of(&self, some: u64, active: u64, rules: Rules) -> u64 {
-        let shares = self.base_shares(active, rules);
-        members(some).map(|leaf| shares[leaf]).fold(WHOLE, u64::min)
-    }
-
-    /// The base shares for a set of active leaves. A parent has a smaller
-    /// number than its children, so one pass up finds the active nodes and
-    /// one pass down their shares.
-    pub fn base_shares(&self, active_leaves: u64, rules: Rules) -> Shares {
-        let mut active = active_leaves;
-        let mut sums = [0; MAX_NODES];
-        for node in (1..self.count).rev() {
-            if is_member(active, node) {
-                active |= 1 << self.parents[node];
-            }
-            if is_member(active, node) || rules.changed(Mutant::SumOfAllChildren) {
-                sums[self.parents[node]] += self.weights[node];
-            }
-        }
-        let mut shares = [0; MAX_NODES];
-        shares[0] = WHOLE;
-        for node in members(active & !1) {
-            let parent = self.parents[node];
-            let divided = if rules.changed(Mutant::ShareOfWhole) {
-                WHOLE
-            } else {
-                shares[parent]
-            };
-            // The weights of a tree that is only tried may sum to 0.
-            let (weight, sum) = (self.weights[node], sums[parent].max(1));
-            shares[node] = rules.floor(Mutant::ShareRoundedUp, divided, weight, sum);
-        }
-        shares
+        self.check_thin_at_start(rules)
     }
 }

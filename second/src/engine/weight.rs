@@ -1,12 +1,16 @@
 //! The controller's last call: a weight that changes after start.
 
+use std::mem;
+
+use crate::engine::base::Call;
 use crate::engine::clock::FRESH_VRATE;
 use crate::engine::controller::{Controller, MAX_WAITING};
 use crate::engine::leaf::Queue;
 use crate::engine::numbers::{is_member, members, Absolute, Relative};
 use crate::engine::refusal::Refusal;
 use crate::engine::rules::Mutant;
-use crate::engine::tree::{Shares, Tree, MAX_NODES, SHARE_FLOOR};
+use crate::engine::shares::{Shares, SHARE_FLOOR};
+use crate::engine::tree::{Tree, MAX_NODES};
 
 impl Controller {
     /// Sets the weight of one node; refusals 19, 22 and 2. Any donation ends,
@@ -25,8 +29,8 @@ impl Controller {
             return Ok(());
         }
         let old = self.tree.base_shares(self.active, self.rules);
-        let new = tree.base_shares(self.active, self.rules);
-        self.tree = tree;
+        let before = mem::replace(&mut self.tree, tree);
+        let new = self.base_shares(Call::Weight(node, &before));
         if !self.keeps_shares(&old, &new) {
             self.donors = 0;
             self.take_held(node, &old, &new);
@@ -58,7 +62,7 @@ impl Controller {
     /// A refused weight changes nothing, but under a mutant.
     fn note_refused_weight(&mut self, node: usize, weight: u16, refusal: Refusal) {
         if self.rules.changed(Mutant::RefusedWeightEnds) {
-            self.return_to_base();
+            self.return_to_base(0);
         }
         if refusal == Refusal::Thin && self.rules.changed(Mutant::RefusedWeightStays) {
             let tree = self.tree.with_weight(node, weight);
@@ -106,6 +110,9 @@ impl Controller {
             tree.smallest_of(self.active, self.active, self.rules)
         } else if self.rules.changed(Mutant::NewThinOfNamed) {
             tree.smallest_of(tree.leaves_of(node), tree.leaves(), self.rules)
+        } else if self.rules.changed(Mutant::NewThinByOldSums) {
+            let sums = self.tree.sums(self.tree.leaves(), self.rules);
+            tree.smallest_by(&sums, self.rules)
         } else {
             return tree.check_thin(self.rules);
         };

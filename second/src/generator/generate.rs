@@ -9,12 +9,14 @@ use crate::generator::moves::clock::CLOCK_MOVES;
 use crate::generator::moves::debt::climb_to_debt_limit;
 use crate::generator::moves::flush::FLUSH_MOVES;
 use crate::generator::moves::load::{DEEP_MOVES, FEW_MOVES, FULL_MOVES, IDLE_MOVES};
+use crate::generator::moves::shares::SHARE_MOVES;
 use crate::generator::moves::usual::{EDGE_MOVES, USUAL_MOVES};
 use crate::generator::moves::weight::WEIGHT_MOVES;
 use crate::generator::random::Random;
 use crate::generator::setup::{dearest_setup, deep_setup, few_setup, good_setup, wide_setup};
 use crate::generator::state::{Generator, Move};
 use crate::generator::style::Style;
+use crate::generator::woven::woven_setup;
 use crate::trace::record::Record;
 
 fn choose_setup(random: &mut Random, style: Style, climb: bool) -> Vec<Record> {
@@ -23,6 +25,7 @@ fn choose_setup(random: &mut Random, style: Style, climb: bool) -> Vec<Record> {
         Style::Few => few_setup(),
         Style::Idle | Style::Full => wide_setup(random),
         Style::Trees => bad_tree(random),
+        Style::Shares => woven_setup(random),
         Style::Edges if climb => dearest_setup(random),
         Style::Edges if random.once_in(4) => bad_setup(random),
         Style::Short if random.once_in(2) => bad_setup(random),
@@ -39,9 +42,10 @@ fn moves_of(style: Style, random: &mut Random) -> &'static [(u64, Move)] {
         Style::Full => return FULL_MOVES,
         Style::Clock if !random.once_in(4) => return CLOCK_MOVES,
         Style::Flushes if !random.once_in(4) => return FLUSH_MOVES,
+        Style::Shares if !random.once_in(8) => return SHARE_MOVES,
         Style::Short | Style::Trees => 5,
         Style::Long | Style::Valid | Style::Weights => 16,
-        Style::Clock | Style::Flushes => 16,
+        Style::Clock | Style::Flushes | Style::Shares => 16,
         Style::Damaged | Style::Noise => 10,
         Style::Edges => 2,
     };

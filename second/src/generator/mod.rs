@@ -8,5 +8,7 @@ pub mod growth;
 mod moves;
 pub mod random;
 pub mod setup;
+pub mod shape;
 mod state;
 pub mod style;
+mod woven;

@@ -115,18 +115,12 @@ pub fn deep_setup(random: &mut Random) -> Vec<Record> {
     setup_on_bench(&nodes)
 }
 
-/// So many leaves of the same weight right below the root.
-pub fn even_setup(leaves: u64, rates: Rates) -> Vec<Record> {
-    let nodes: Nodes = (0..leaves).map(|_| (0, 100)).collect();
-    setup_on(rates, &nodes)
-}
-
 fn setup_on_bench(nodes: &[Node]) -> Vec<Record> {
     setup_on(BENCH, nodes)
 }
 
 /// The model first, then the nodes, and a start at 0.
-fn setup_on(rates: Rates, nodes: &[Node]) -> Vec<Record> {
+pub fn setup_on(rates: Rates, nodes: &[Node]) -> Vec<Record> {
     let mut records = vec![Record::Model(rates)];
     records.extend(
         nodes
@@ -182,7 +176,7 @@ pub fn good_tree(random: &mut Random) -> Nodes {
     nodes.iter().map(|&(parent, _)| (parent, 100)).collect()
 }
 
-fn is_good(nodes: &[Node]) -> bool {
+pub fn is_good(nodes: &[Node]) -> bool {
     let mut tree = Tree::new();
     nodes
         .iter()

@@ -16,6 +16,7 @@ named_list! {
         Trees = "trees",
         Clock = "clock",
         Flushes = "flushes",
+        Shares = "shares",
     }
 }
 
@@ -35,7 +36,7 @@ impl Style {
             Style::Deep | Style::Few | Style::Idle | Style::Full => 3_000,
             Style::Long | Style::Weights => 3_000,
             Style::Valid => 500,
-            Style::Clock | Style::Flushes => 200,
+            Style::Clock | Style::Flushes | Style::Shares => 200,
             Style::Damaged => 120,
             Style::Edges => 700,
             Style::Noise => 300,

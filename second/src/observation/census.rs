@@ -10,6 +10,7 @@ use crate::engine::tree::MAX_WEIGHT;
 use crate::observation::events::Event;
 use crate::observation::flushes::Flushes;
 use crate::observation::observe::observe;
+use crate::observation::shares::PassEvents;
 use crate::trace::record::{Record, START, WEIGHT};
 use crate::trace::replay::{Outcome, Phase, Replay};
 use crate::trace::stream::Stream;
@@ -76,6 +77,7 @@ impl Census {
         let mut stream = Stream::new(trace);
         let mut replay = Replay::new(Rules::TRUE);
         let mut flushes = Flushes::new();
+        let mut passes = PassEvents::new();
         let mut records = 0;
         let mut refused = false;
         while !replay.stopped() {
@@ -99,6 +101,7 @@ impl Census {
                 let hit = &mut |event| self.hit(event);
                 observe(&before, &record, outcome, after, hit);
                 flushes.observe(&before, &record, outcome, after, hit);
+                passes.observe(&before, &record, outcome, after, hit);
                 if let (Record::Node { .. }, true, Phase::Setup { tree, .. }) =
                     (record, replay.stopped(), &before)
                 {

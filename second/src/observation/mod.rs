@@ -6,3 +6,4 @@ pub mod events;
 mod flushes;
 pub mod ledger;
 pub mod observe;
+mod shares;

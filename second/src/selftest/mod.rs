@@ -4,6 +4,8 @@
 
 mod clock;
 mod flush;
+mod growth;
+mod shares;
 mod trees;
 
 use std::fmt::Debug;
@@ -18,7 +20,6 @@ use crate::engine::refusal::{Fault, Refusal};
 use crate::engine::rules::{Mutant, Rules};
 use crate::engine::tree::Tree;
 use crate::generator::generate::generate;
-use crate::generator::growth::{growth, Kind, MOST_LEAVES};
 use crate::generator::setup::{BENCH, LINUX, PAPER};
 use crate::generator::style::Style;
 use crate::observation::ledger::audit;
@@ -46,7 +47,7 @@ impl Checks {
 }
 
 /// Fewer checks are no test: a loop over nothing is no success.
-const LEAST: u64 = 6_030;
+const LEAST: u64 = 6_265;
 
 /// A group of checks; a refusal ends it where none belongs.
 type Group = fn(&mut Checks) -> Result<(), Refusal>;
@@ -60,6 +61,9 @@ const GROUPS: &[(&str, Group)] = &[
     ("costs from outside", outside_costs),
     ("presets of Linux", linux_prices),
     ("shares from outside", outside_shares),
+    ("shares in one pass", shares::passes),
+    ("thin trees", shares::thin_trees),
+    ("noticed shares", shares::noticed),
     ("virtual time limit", virtual_time_limit),
     ("order of refusals at a tick", tick_refusal_order),
     ("release buffer", release_buffer),
@@ -107,11 +111,8 @@ pub fn run(out: &mut impl Write) -> io::Result<bool> {
             generated_trace(&mut checks, seed, *style)?;
         }
     }
-    for kind in Kind::ALL {
-        for leaves in [1, MOST_LEAVES] {
-            growth_trace(&mut checks, *kind, leaves)?;
-        }
-    }
+    growth::traces(&mut checks)?;
+    shares::generated(&mut checks)?;
     noticed_faults(&mut checks)?;
     let made = checks.passed + checks.failures.len() as u64;
     if made < LEAST {
@@ -663,30 +664,6 @@ fn text_refusals(checks: &mut Checks) -> Result<(), Refusal> {
         let said = assemble_whole(text).map_err(|fault| fault.to_string());
         checks.equal(wanted, said, Err(wanted.to_string()));
     }
-    Ok(())
-}
-
-/// A trace for measuring prints what its records are said to do, and no more:
-/// a line for each bio, none for a tick, one for each leaf at a plan.
-fn growth_trace(checks: &mut Checks, kind: Kind, leaves: u64) -> io::Result<()> {
-    const ROUNDS: u64 = 200;
-    let lines_of = |rounds: u64| -> io::Result<String> {
-        let (mut trace, mut lines) = (Vec::new(), Vec::new());
-        growth(kind, leaves, rounds, &mut trace)?;
-        replay(trace.as_slice(), &mut lines, Rules::TRUE)?;
-        Ok(String::from_utf8_lossy(&lines).into_owned())
-    };
-    let all = lines_of(ROUNDS)?;
-    let behind = all.strip_prefix(&lines_of(0)?).unwrap_or("R");
-    let (letter, due) = match kind {
-        Kind::Bios => ("I", ROUNDS),
-        Kind::Plans => ("P", ROUNDS * leaves),
-        Kind::Ticks | Kind::Between => ("", 0),
-    };
-    let fitting = behind.lines().filter(|line| line.starts_with(letter));
-    let found = (behind.lines().count() as u64, fitting.count() as u64);
-    let name = format!("{} on {} leaves", kind.name(), leaves);
-    checks.equal(&name, found, (due, due));
     Ok(())
 }
 

@@ -285,11 +285,11 @@ impl Replay {
 
     fn print_shares(&self, out: &mut impl Write) -> io::Result<()> {
         if let Some(controller) = self.controller() {
-            let mut left = if self.rules.changed(Mutant::LinesOfInactive) {
-                members(controller.tree.leaves())
-            } else {
-                members(controller.active)
-            };
+            let mut left = members(match self.rules.mutant() {
+                Some(Mutant::LinesOfInactive) => controller.tree.leaves(),
+                Some(Mutant::LinesOfInner) => controller.active | controller.active_inner(),
+                _ => controller.active,
+            });
             let falling = self.rules.changed(Mutant::FallingLines);
             while let Some(number) = if falling {
                 left.next_back()

@@ -52,7 +52,7 @@ fn clear(g: &mut Generator, number: usize) {
 
 /// Ticks at which a leaf's debt or oldest waiter is just not through, and then
 /// just is, for some of them.
-fn settle(g: &mut Generator, number: usize) {
+pub fn settle(g: &mut Generator, number: usize) {
     for _ in 0..3 {
         if !g.is_active(number) || g.leaf(number).is_clear() {
             return;

@@ -93,7 +93,7 @@ fn short_tick(g: &mut Generator) {
 }
 
 /// A tick just long enough for the next bio that waits anywhere.
-fn release_next(g: &mut Generator) {
+pub fn release_next(g: &mut Generator) {
     g.make_room();
     let controller = g.controller();
     let missing = members(controller.active)

@@ -5,5 +5,6 @@ pub mod debt;
 pub mod donation;
 pub mod flush;
 pub mod load;
+pub mod shares;
 pub mod usual;
 pub mod weight;

@@ -85,7 +85,7 @@ pub fn stand_donation(g: &mut Generator) -> Option<usize> {
 
 /// A weight of a donor, of a leaf that takes, of one that sleeps or of any
 /// node, while a donation stands.
-fn weight_in_donation(g: &mut Generator) {
+pub fn weight_in_donation(g: &mut Generator) {
     let donor = match stand_donation(g) {
         None => return usual_weight(g),
         Some(donor) => donor,
@@ -150,7 +150,7 @@ fn weight_of_sleeper(g: &mut Generator) {
 /// The last weight of a node that leaves the tree fit, and the next one,
 /// which makes it thin. Further up the nodes beside it get thinner, further
 /// down its own leaves do, so both are found by halving.
-fn weight_at_thin(g: &mut Generator) {
+pub fn weight_at_thin(g: &mut Generator) {
     let node = any_node(g);
     let tree = &g.controller().tree;
     let thin = |weight: u16| {
