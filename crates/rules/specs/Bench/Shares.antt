@@ -7,7 +7,7 @@ use mathlib.Core.List.{List, [], _∷_, _++_, map}
 use Prim.Native.Nat.{ℕ, _+_, _-_, _^_}
 use lib.ListN.{replicate, take, drop}
 use Rattle.rules.specs.Numbers.{WHOLE}
-use Rattle.rules.specs.Words.{noNode}
+use Rattle.rules.specs.Words.{tableFrom, noNode}
 use Rattle.rules.specs.Units.{abs}
 use Rattle.rules.specs.Tree.{leavesOf, childSum, shareOf, baseShare, baseShares}
 use Rattle.rules.specs.Budget.{emptyRow, fresh, rowAt, shareAt, withClock, withSharing, withBooks, withUsage, withAccepted}
@@ -126,12 +126,19 @@ chain8 high low = tree 11 (0 ∷ 1 ∷ 2 ∷ 3 ∷ 4 ∷ 5 ∷ 6 ∷ 7 ∷ 0 ∷
 abbrev chain8Last : ℕ → Tree
 chain8Last low = tree 11 (0 ∷ 1 ∷ 2 ∷ 3 ∷ 4 ∷ 5 ∷ 6 ∷ 0 ∷ 7 ∷ 7 ∷ []) (replicate 7 1 ++ (1023 ∷ low ∷ 1 ∷ []))
 
+-- 64 nodes, of which node 63 alone is too small: node 7 has one part in 70,001, all of it goes down to 62 and 63, and 63 has one
+-- part in 15 of that, 1,022
+abbrev wide8 : Tree
+wide8 =
+    tree 64 (replicate 8 0 ++ tableFrom (λ i. i) 1 53 ++ (55 ∷ 55 ∷ [])) (replicate 6 10000 ++ (1 ∷ 10000 ∷ replicate 53 1 ++ (14 ∷ 1 ∷ [])))
+
 pub thinAtDepth : List Case
 thinAtDepth =
     gives 0 (treeChecks (chain8 1023 1023)) ∷ gives 2 (treeChecks (chain8 1024 1023)) ∷ gives 2 (treeChecks (chain8 1023 1024))
     ∷ gives 0 (weightChecks 9 1023 (chain8 1024 1023)) ∷ gives 2 (weightChecks 9 1024 (chain8 1023 1023))
     ∷ gives 0 (weightChecks 10 1023 (chain8 1023 1024)) ∷ gives 2 (weightChecks 10 1024 (chain8 1023 1023))
     ∷ gives 0 (treeChecks (chain8Last 1023)) ∷ gives 2 (treeChecks (chain8Last 1024))
+    ∷ gives 2 (treeChecks wide8)
     -- the weight of an inner node without a sibling moves nothing
     ∷ gives 0 (weightChecks 4 10000 (chain8 1023 1023))
     ∷ []
