@@ -1,20 +1,16 @@
 -- The rules as one leaf sees them: of a queue they look at how many wait, of an accepted bio at where it ends.
 -- Assumes nothing.
 use mathlib.Core.Path.{_≡_, refl}
-use mathlib.Core.Bool.{Bool, true, false}
-use mathlib.Core.List.{[]}
+use mathlib.Core.Bool.{Bool, true}
 use Prim.Native.Nat.{ℕ}
 use Rattle.rules.specs.Budget.{answerTo, withAccepted, withEnd}
+pub use Rattle.rules.specs.Budget.{lengthOnly}
 use Rattle.rules.specs.Tick.{capped}
 use Rattle.rules.specs.Plan.{stays, isDonor}
 use Rattle.rules.specs.declared.units.Abs.{Abs}
 use Rattle.rules.specs.declared.budget.Row.{Row}
 use Rattle.rules.specs.declared.budget.Queue.{Queue}
 use Rattle.rules.specs.declared.refusals.Answer.{Answer}
-
--- a queue of which nothing is known but how many wait
-abbrev pub lengthOnly : ℕ → Queue
-lengthOnly waiting = record { ids = []; costs = []; head = 0; len = waiting }
 
 -- ---- the rules, by the count alone
 abbrev pub answerWith : Bool → Abs → ℕ → Row → ℕ → Answer
@@ -29,13 +25,7 @@ staysWith row waiting = stays row (lengthOnly waiting)
 abbrev pub isDonorWith : ℕ → ℕ → Row → ℕ → Bool
 isDonorWith target base row waiting = isDonor target base row (lengthOnly waiting)
 
--- ---- nothing is lost by it: of the cap and of who stays by definition, of the other two by cases
-pub answer-by-count : (forced : Bool) (cost : Abs) (share : ℕ) (row : Row) (q : Queue)
-    → answerTo forced cost share row q ≡ answerWith forced cost share row (q .len)
-unfolding answerTo
-answer-by-count true cost share row q = refl
-answer-by-count false cost share row q = refl
-
+-- ---- nothing is lost by it: of the cap and of who stays by definition, of the answer by a law (`answer-by-count`), and of a donor
 pub donor-by-count : (target base : ℕ) (row : Row) (q : Queue) → isDonor target base row q ≡ isDonorWith target base row (q .len)
 unfolding isDonor
 donor-by-count target base row q = refl

@@ -4,6 +4,7 @@ pub mod Clocks
 pub mod Edges
 pub mod Faults
 pub mod Flushes
+pub mod Questions
 pub mod Run
 pub mod Shares
 pub mod Weights
@@ -22,6 +23,7 @@ use Rattle.rules.specs.Tick.{hundredths, growth, leftOver, advanced, rep
 use Rattle.rules.specs.Plan.{usageAll, isQuiet, forgiveness, usedShare, targetOf, isDonor, isTaker, isDonation, sumOver, takenOf, isLowest, remainder, shareGiven, donated, quietIn, activeAfter, targetsIn, donorsIn, closed, shared, plan}
 use Rattle.rules.specs.Refusals.{verdictNumber, treeChecks, nodeChecks, rateChecks, startChecks, costChecks, roomChecks, submitChecks, tickChecks, planChecks, vrateChecks, weightChecks}
 use Rattle.rules.specs.Entries.{treeVerdict, costing, costingBy, started, startedBy, submitted, submittedBy, ticked, tickedBy, lentBy, lentOf, planned, plannedBy, vrated, vratedBy, weighted, weightedBy}
+use Rattle.rules.specs.Question.{unlessRefused, whenActive, whenInactive, rulingBy, ruling, asked}
 use Rattle.rules.specs.Trace.{bytesOf, numberOf, isKind, layout, fieldsOf, recordOf, bodyOf, recordBytes, writing, fieldsFrom, behind, readKind, readAt}
 use Rattle.rules.specs.Replay.{digits, digitsIn, line, refusalLine, answerLine, tickLines, shareLinesTo, shareLines, planLines, verdictLines, inPhase, nodeStep, modelStep, startStep, recordStep, readStep, stepped, replayFrom, replay}
 use Rattle.rules.specs.declared.cost.Rates.{Rates}
@@ -39,7 +41,7 @@ use Rattle.rules.specs.declared.trace.Record.the-variants.{Node, Model a
 
 -- every rule that the checker computes below: to unfold this is to unfold them all
 unfoldable pub computed : Unit {0}
-unfolding sumTo anyTo joinTo tableFrom has setTo relative ratesInRange pageCost baseCost priceOf priced isFlush isNear isSequential costAt costOf parent weight last levelIn level countInRange weightInRange nodeFault faultTo treeFault isLeaf leavesOf onWayIn onWay isActive childSum shareIn shareOf baseShare baseShares isThin rebudget reshared rebased activated entered answerTo rowAfter queueAfter answerIn applied settled submission hundredths growth leftOver advanced repayment repaid releaseIn released capped turn turnOf releases tick waitingAll usageAll isQuiet forgiveness usedShare targetOf isDonor isTaker isDonation sumOver takenOf isLowest remainder shareGiven donated quietIn activeAfter targetsIn donorsIn closed shared plan wouldBe treeChecks costChecks roomChecks submitChecks tickChecks planChecks treeVerdict costing costingBy submitted submittedBy ticked tickedBy planned plannedBy digits digitsIn line refusalLine answerLine bytesOf numberOf isKind layout fieldsOf recordOf bodyOf recordBytes writing fieldsFrom behind readKind readAt rateChecks vrateChecks lentBy lentOf lentAfter vrated vratedBy tickLines shareLinesTo shareLines planLines verdictLines inPhase newestFault nodeChecks nodeStep modelStep startChecks startedBy started startStep recordStep readStep stepped replayFrom replay isBelowRoot weightChecks weighted weightedBy reweighted
+unfolding sumTo anyTo joinTo tableFrom has setTo relative ratesInRange pageCost baseCost priceOf priced isFlush isNear isSequential costAt costOf parent weight last levelIn level countInRange weightInRange nodeFault faultTo treeFault isLeaf leavesOf onWayIn onWay isActive childSum shareIn shareOf baseShare baseShares isThin rebudget reshared rebased activated entered answerTo rowAfter queueAfter answerIn applied settled submission hundredths growth leftOver advanced repayment repaid releaseIn released capped turn turnOf releases tick waitingAll usageAll isQuiet forgiveness usedShare targetOf isDonor isTaker isDonation sumOver takenOf isLowest remainder shareGiven donated quietIn activeAfter targetsIn donorsIn closed shared plan wouldBe treeChecks costChecks roomChecks submitChecks tickChecks planChecks treeVerdict costing costingBy submitted submittedBy ticked tickedBy planned plannedBy digits digitsIn line refusalLine answerLine bytesOf numberOf isKind layout fieldsOf recordOf bodyOf recordBytes writing fieldsFrom behind readKind readAt rateChecks vrateChecks lentBy lentOf lentAfter vrated vratedBy tickLines shareLinesTo shareLines planLines verdictLines inPhase newestFault nodeChecks nodeStep modelStep startChecks startedBy started startStep recordStep readStep stepped replayFrom replay isBelowRoot weightChecks weighted weightedBy reweighted unlessRefused whenActive whenInactive rulingBy ruling asked
 computed = tt
 
 -- ---- an entry of the list: a bench number, what the rules give, what the bench has

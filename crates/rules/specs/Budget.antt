@@ -1,7 +1,7 @@
 -- Budget and submission.
 -- Assumes nothing.
 use mathlib.Core.Bool.{Bool, true, false, cond, not, _&&_, _||_}
-use mathlib.Core.List.{List}
+use mathlib.Core.List.{List, []}
 use Prim.Native.Nat.{ℕ, _+_, _-_, _*_, _%_}
 use lib.Dec.{eqb, leb, ltb}
 use lib.ListN.{getD, set, replicate}
@@ -188,6 +188,10 @@ noted b r = withAccepted true (withEnd (endAfter b r) (begunAfter b r) r)
 
 abbrev pub owes : Row → Bool
 owes r = ltb 0 (r .debt .0)
+
+-- a queue of which nothing is known but how many wait
+abbrev pub lengthOnly : ℕ → Queue
+lengthOnly waiting = record { ids = []; costs = []; head = 0; len = waiting }
 
 abbrev pub waits : Queue → Bool
 waits q = ltb 0 (q .len)

@@ -27,6 +27,7 @@ pub mod Submits
 pub mod Answers
 pub mod Verdicts
 pub mod Decisions
+pub mod Questions
 pub mod Refused
 pub mod Flushes
 pub mod Settings

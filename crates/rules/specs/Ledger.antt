@@ -28,13 +28,15 @@ use Rattle.rules.specs.declared.refusals.Answer.the-variants.{Issued, Wa
 -- ---- the calls, with any arguments; a tick has the contents of the buffer that it is lent
 pub data Call : Type 0 where
   submit : Bio → Call
+  ask : Bio → Call
   tick : ℕ → List ℕ → Call
   plan : Call
   set : Setting → Call
 
--- the state that a call leaves: what the entries' contracts say
+-- the state that a call leaves: what the entries' contracts say; a question is lent it and hands none back
 abbrev pub after : Call → Controller → Controller
 after (submit b) c = submitted b c .state
+after (ask b) c = c
 after (tick time lent) c = ticked time lent c .state
 after plan c = planned c .state
 after (set x) c = setBy x c .state
@@ -107,36 +109,42 @@ forgivenAt c n = forgiveness (quietIn c) (rowAt c n .debt) .0
 -- ---- the heads of one call
 unfoldable pub accepted : Call → Controller → ℕ → ℕ
 accepted (submit b) c n = ifTaken (submitted b c .answer) (costOn n b c)
+accepted (ask b) c n = 0
 accepted (tick time lent) c n = 0
 accepted plan c n = 0
 accepted (set x) c n = 0
 
 unfoldable pub issued : Call → Controller → ℕ → ℕ
 issued (submit b) c n = ifIssued (submitted b c .answer) (costOn n b c)
+issued (ask b) c n = 0
 issued (tick time lent) c n = 0
 issued plan c n = 0
 issued (set x) c n = 0
 
 unfoldable pub released : Call → Controller → ℕ → ℕ
 released (submit b) c n = 0
+released (ask b) c n = 0
 released (tick time lent) c n = ifAccepted (firstOf (tickChecks time (length lent) c)) (releasedAt (growth (c .clock) time) c n)
 released plan c n = 0
 released (set x) c n = 0
 
 unfoldable pub repaid : Call → Controller → ℕ → ℕ
 repaid (submit b) c n = 0
+repaid (ask b) c n = 0
 repaid (tick time lent) c n = ifAccepted (firstOf (tickChecks time (length lent) c)) (repaidAt (growth (c .clock) time) c n)
 repaid plan c n = 0
 repaid (set x) c n = 0
 
 unfoldable pub forgiven : Call → Controller → ℕ → ℕ
 forgiven (submit b) c n = 0
+forgiven (ask b) c n = 0
 forgiven (tick time lent) c n = 0
 forgiven plan c n = ifAccepted (firstOf (planChecks c)) (forgivenAt c n)
 forgiven (set x) c n = 0
 
 unfoldable pub generated : Call → Controller → ℕ
 generated (submit b) c = 0
+generated (ask b) c = 0
 generated (tick time lent) c = ifAccepted (firstOf (tickChecks time (length lent) c)) (growth (c .clock) time .0)
 generated plan c = 0
 generated (set x) c = 0
@@ -144,6 +152,7 @@ generated (set x) c = 0
 -- the same in hundredths with nothing rounded: elapsed x vrate (DECISIONS 68)
 unfoldable pub exact : Call → Controller → ℕ
 exact (submit b) c = 0
+exact (ask b) c = 0
 exact (tick time lent) c = ifAccepted (firstOf (tickChecks time (length lent) c)) ((time - c .clock .time) * c .clock .vrate)
 exact plan c = 0
 exact (set x) c = 0

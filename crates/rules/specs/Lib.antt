@@ -8,6 +8,7 @@ pub mod Tick
 pub mod Plan
 pub mod Refusals
 pub mod Entries
+pub mod Question
 pub mod Trace
 pub mod Replay
 pub mod Chunks

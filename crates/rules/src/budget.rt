@@ -52,6 +52,17 @@ pub struct Controller {
     pub queues: [Queue; 64],
 }
 
+// Request Six: what a question is shown. "It looks only at that leaf's own row and the model": whether the node is a leaf
+// and active, the model, and of the node's books the share, the row and how many wait.
+pub struct Own {
+    pub leaf: bool,
+    pub active: bool,
+    pub model: Model,
+    pub share: u32,
+    pub row: Row,
+    pub waiting: u8,
+}
+
 // The new state beside the answer: of start, plan, vrate and weight, of a submission, and of a tick.
 pub struct Outcome {
     pub answer: Verdict,

@@ -52,6 +52,12 @@ pub enum Answer {
     Refused(Refusal),
 }
 
+// The decision on a bio: the answer, and what the bio costs where it was priced.
+pub struct Ruling {
+    pub answer: Answer,
+    pub cost: Abs,
+}
+
 // What a tick answers: how many bios it released.
 pub enum Count {
     Released(usize),

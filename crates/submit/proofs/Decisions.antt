@@ -2,7 +2,7 @@
 -- its leaf is to become active, in the state in which it is.
 -- Assumes nothing.
 use mathlib.Core.Path.{_≡_, refl, sym, ap, _∙_}
-use mathlib.Core.Bool.{Bool, true, false, cond, _&&_}
+use mathlib.Core.Bool.{Bool, true, false, cond, not, _&&_}
 use mathlib.Core.List.{[], _∷_}
 use mathlib.Core.Logic.{inl, inr}
 use Prim.Native.Nat.{ℕ, _*_, _≤_, _<_}
@@ -18,9 +18,11 @@ use Rattle.rules.specs.Numbers.{nodesMost, queueRoom}
 use Rattle.rules.specs.Words.{has}
 use Rattle.rules.specs.Tree.{isLeaf}
 use Rattle.rules.specs.Budget.{emptyRow, emptyQueue, rowAt, queueAt, shareAt, withBooks, putLeaf, pushed, rebased, entered, endsDonation}
+use Rattle.rules.specs.Cost.{isForced}
 use Rattle.rules.specs.Entries.{costing, submitted}
+use Rattle.rules.specs.Question.{refusedBy, whenActive, whenInactive, ruling}
 use Rattle.rules.specs.Invariant.{worthMost, Sound, SoundQueue, SoundTree, Within}
-use Rattle.rules.specs.Laws.Bools.{never, is-false}
+use Rattle.rules.specs.Laws.Bools.{never, true-not-false, is-false, and-not-right}
 use Rattle.rules.specs.Laws.Trees.{leaves-are, root-no-leaf}
 use Rattle.rules.specs.Laws.Submits.{put-each}
 use Rattle.rules.specs.Laws.Costs.{bio-in-range, costing-costs-exactly-when}
@@ -30,6 +32,7 @@ use Rattle.rules.specs.Laws.Decisions.{entered-active}
 use Rattle.rules.specs.declared.units.Abs.{Abs}
 use Rattle.rules.specs.declared.cost.Bio.{Bio}
 use Rattle.rules.specs.declared.tree.Tree.{Tree}
+use Rattle.rules.specs.declared.budget.Own.{Own}
 use Rattle.rules.specs.declared.budget.Queue.{Queue}
 use Rattle.rules.specs.declared.budget.Controller.{Controller}
 use Rattle.rules.specs.declared.budget.Submitted.{Submitted}
@@ -38,7 +41,8 @@ use Rattle.rules.specs.declared.refusals.Refusal.the-variants.{NoLeaf}
 use Rattle.rules.specs.declared.refusals.Costing.{Costing}
 use Rattle.rules.specs.declared.refusals.Costing.the-variants.{Costs, Refused as Uncosted}
 use Rattle.rules.specs.declared.refusals.Answer.{Answer}
-use Rattle.rules.specs.declared.refusals.Answer.the-variants.{Refused as Declined}
+use Rattle.rules.specs.declared.refusals.Answer.the-variants.{Waits, Refused as Declined}
+use Rattle.rules.specs.declared.refusals.Ruling.{Ruling}
 use Rattle.leaf.specs.Alone.{lengthOnly}
 use Rattle.leaf.specs.Fit.{active-is-fit}
 use Rattle.submit.specs.declared.Queueing.the-variants.{Stays, Joins}
@@ -47,37 +51,81 @@ use Rattle.submit.specs.declared.View.{View}
 use Rattle.submit.specs.declared.Shares.{Shares}
 use Rattle.submit.specs.declared.Shares.the-variants.{Stand, Activate, Return}
 use Rattle.submit.specs.declared.Decision.{Decision}
-use Rattle.submit.specs.OnLeaf.{CanJudge, queued, onLeaf}
+use Rattle.submit.specs.OnLeaf.{isTaken, CanRule, CanBook, queued, bookedBy, onLeaf}
 use Rattle.submit.proofs.Shares.{the-type}
-use Rattle.submit.proofs.Shapes.{leaf-node, at-node, found, model-is-sound, no-leaf, unfit, Ready, ready-there, landed, submits, no-budget-gained, joins-with-room, wakes, woken-within}
-use Rattle.submit.specs.Decision.{placeOf, viewOf, viewAt, CanDecide, sharesAfter, declined, activates, judgedAt, decisionBy, decision}
+use Rattle.submit.proofs.Shapes.{leaf-node, at-node, found, model-is-sound, no-leaf, unfit, Ready, ready-there, landed, submits, booked-answer, joins-to-wait, no-budget-gained, wakes, woken-within}
+use Rattle.submit.proofs.Rulings.{no-leaf-ruled, uncosted-ruled, active-ruled, inactive-ruled, taken-is, booking-there, waits-there}
+use Rattle.submit.specs.Decision.{placeOf, viewOf, viewAt, CanDecide, sharesAfter, declined, activates, judgedAt, ownIn, decisionBy, decision}
 
 -- ---- the code's own steps
-module _ (b : Bio) (n : ℕ) (v : View) where
-  pub no-leaf-decides : {t : Bool} → t ≡ has (v .leaves) n → t ≡ false → declined NoLeaf v ≡ decision b n v
-  unfolding decision
-  no-leaf-decides e q = rw (sym e ∙ q)
+-- a leaf is to become active exactly where the bio is not refused and the leaf is not active yet
+to-wake : (taken active : Bool) → (taken && not active) ≡ true → (taken ≡ true) × (active ≡ false)
+to-wake true false e = (refl, refl)
+to-wake true true e = absurd (true-not-false e refl)
+to-wake false active e = absurd (true-not-false e refl)
 
-  module _ {t : Bool} {k : Costing} (e : t ≡ has (v .leaves) n) (q : t ≡ true) (c : k ≡ costing (v .model) (v .row) b) where
-    pub uncosted-decides : {x : Refusal} → k ≡ Uncosted x → declined x v ≡ decision b n v
+awake : (taken active : Bool) → taken ≡ true → (taken && not active) ≡ false → active ≡ true
+awake true true t e = refl
+awake true false t e = absurd (true-not-false refl e)
+awake false active t e = absurd (true-not-false t refl)
+
+pub can-rule : (n : ℕ) (v : View) {o : Own} → o ≡ ownIn n v → CanDecide n v → CanRule o
+can-rule n v i can = rw i (record { prices = can .model; fit = can .fit })
+
+module _ (b : Bio) (n : ℕ) (v : View) {o : Own} {r : Ruling} {t : Bool} (i : o ≡ ownIn n v) (e : r ≡ ruling b o) (k : t ≡ isTaken (r .answer)) where
+  is-ruled : r ≡ ruling b (ownIn n v)
+  is-ruled = e ∙ ap (ruling b) i
+
+  wakes-it : (t && not (o .active)) ≡ (isTaken (ruling b (ownIn n v) .answer) && not (has (v .active) n))
+  wakes-it = rw (k, i, is-ruled)
+
+  pub activates-first : (t && not (o .active)) ≡ true → activates (r .answer) v ≡ decision b n v
+  unfolding decision decisionBy
+  activates-first w = rw (is-ruled, sym wakes-it ∙ w)
+
+  module _ (w : (t && not (o .active)) ≡ false) where
+    pub can-book : CanDecide n v → {share : ℕ} → share ≡ v .share → CanBook b (r .answer) (r .cost) share (v .row)
+    can-book can h = rw (h, is-ruled) (record { range = λ u. there u .range u; takes = λ u. there u .takes u })
+      where
+        there : isTaken (ruling b (ownIn n v) .answer) ≡ true
+            → CanBook b (ruling b (ownIn n v) .answer) (ruling b (ownIn n v) .cost) (v .share) (v .row)
+        there u =
+            booking-there b (ownIn n v) (taken-is b (ownIn n v) u) (awake _ (has (v .active) n) u (sym wakes-it ∙ w)) (can-rule n v refl can)
+
+    pub judges : {share : ℕ} {j : Judged} {s : Shares} → share ≡ v .share → j ≡ bookedBy (r .answer) b (r .cost) share (v .row)
+        → s ≡ sharesAfter (r .answer) (v .donors) n
+        → _≡_ {A = Decision} (record { answer = r .answer; shares = s; row = j .row; queue = j .queue }) (decision b n v)
     unfolding decision decisionBy
-    uncosted-decides i = rw (sym e ∙ q, sym c ∙ i)
+    judges h l s =
+        rw (s, l, h, is-ruled, sym wakes-it ∙ w)
+        (rw (booked-answer b (ruling b (ownIn n v) .cost) (v .share) (v .row) (ruling b (ownIn n v) .answer)))
 
-    module _ {cost : Abs} {u : Bool} (i : k ≡ Costs cost) (a : u ≡ has (v .active) n) where
-      pub activates-first : u ≡ false → activates v ≡ decision b n v
-      unfolding decision decisionBy
-      activates-first o = rw (sym e ∙ q, sym c ∙ i, sym a ∙ o)
+-- ---- the decision by what the view shows
+module _ (b : Bio) (n : ℕ) (v : View) where
+  refused-decides : (x : Refusal) → refusedBy x ≡ ruling b (ownIn n v) → declined x v ≡ decision b n v
+  unfolding decision decisionBy bookedBy sharesAfter
+  refused-decides x e = rw (sym e)
 
-      pub can-judge-there : CanDecide n v → u ≡ true → {share : ℕ} → share ≡ v .share → CanJudge b cost share (v .row)
-      can-judge-there can o s =
-          let known = costing-costs-exactly-when (v .model) (v .row) b cost .0 (sym c ∙ i) in
-          rw s (record { books = can .fit (sym a ∙ o); range = bio-in-range b .1 (known .0 .0); cheap = rw (known .1) (known .0 .1) })
+  no-leaf-decides : has (v .leaves) n ≡ false → declined NoLeaf v ≡ decision b n v
+  no-leaf-decides l = refused-decides NoLeaf (no-leaf-ruled b (ownIn n v) l)
 
-      pub judges : {share : ℕ} {j : Judged} {s : Shares} → u ≡ true → share ≡ v .share → j ≡ onLeaf b cost share (v .row) (v .waiting)
-          → s ≡ sharesAfter (j .answer) (v .donors) n
-          → _≡_ {A = Decision} (record { answer = j .answer; shares = s; row = j .row; queue = j .queue }) (decision b n v)
-      unfolding decision decisionBy
-      judges o h l s = rw (sym e ∙ q, sym c ∙ i, sym a ∙ o, s, l, h)
+  module _ (l : has (v .leaves) n ≡ true) where
+    uncosted-decides : {x : Refusal} → costing (v .model) (v .row) b ≡ Uncosted x → declined x v ≡ decision b n v
+    uncosted-decides {x} e = refused-decides x (uncosted-ruled b (ownIn n v) l refl e)
+
+    module _ {cost : Abs} (e : costing (v .model) (v .row) b ≡ Costs cost) where
+      rests-decides : has (v .active) n ≡ false → activates (whenInactive (isForced b)) v ≡ decision b n v
+      unfolding decision decisionBy whenInactive
+      rests-decides off = rw (sym (inactive-ruled b (ownIn n v) l refl e off refl refl), off, taken-at-rest (isForced b))
+        where
+          taken-at-rest : (f : Bool) → isTaken (whenInactive f) ≡ true
+          taken-at-rest true = refl
+          taken-at-rest false = refl
+
+      active-decides : has (v .active) n ≡ true → judgedAt n v (onLeaf b cost (v .share) (v .row) (v .waiting)) ≡ decision b n v
+      unfolding decision decisionBy onLeaf
+      active-decides on =
+          rw (sym (active-ruled b (ownIn n v) l refl e on refl refl refl), on, and-not-right (isTaken (whenActive (isForced b) cost (v .share) (v .row) (v .waiting))) false refl)
 
 -- ---- what a state shows
 -- an element read past the queues' end would be another empty one; inside it makes no difference
@@ -195,7 +243,7 @@ judged-there {b} {cost} {d} ready {n} m =
     rw m
     (costing-costs-exactly-when (d .model) (rowAt d (b .node)) b cost .1
     ((bio-in-range b .0 (ready .range), rw (ready .same) at (ready .cheap)), ready .same)) in
-    sym (judges b n (viewAt n d) refl leaf refl costs refl (rw m (ready .active)) refl refl refl)
+    sym (active-decides b n (viewAt n d) leaf costs (rw m (ready .active)))
 
 -- ---- the bio at its place, where it costs what it may: once its leaf is active, what is decided is the rule's
 module _ {c : Controller} (s : Sound c) (b : Bio) (leaf : isLeaf (c .tree) (b .node) ≡ true) (cost : Abs)
@@ -225,58 +273,41 @@ judged-stays a donors n = go (endsDonation a && has donors n)
 
 module _ (b : Bio) (n : ℕ) (v : View) (i : decision b n v .shares ≡ Activate) where
   activating : Activating b n v
-  activating = go (has (v .leaves) n) refl
+  unfolding decision decisionBy
+  activating = go (isTaken (ruling b (ownIn n v) .answer) && not (has (v .active) n)) refl
     where
-      awake : has (v .leaves) n ≡ true → (cost : Abs) → costing (v .model) (v .row) b ≡ Costs cost → (u : Bool) → has (v .active) n ≡ u → Activating b n v
-      awake l cost e true o =
-          never (judged-stays (onLeaf b cost (v .share) (v .row) (v .waiting) .answer) (v .donors) n
-          (ap (λ (q : Decision). q .shares) (judges b n v refl l refl e refl o refl refl refl) ∙ i))
-      awake l cost e false o = record { leaf = l; cost = cost; costs = e; off = o }
-
-      costed : has (v .leaves) n ≡ true → (k : Costing) → costing (v .model) (v .row) b ≡ k → Activating b n v
-      costed l (Costs cost) e = awake l cost e (has (v .active) n) refl
-      costed l (Uncosted x) e =
-          let stands : Stand ≡ Activate = ap (λ (q : Decision). q .shares) (uncosted-decides b n v refl l refl e) ∙ i in never (cc)
-
-      go : (t : Bool) → has (v .leaves) n ≡ t → Activating b n v
-      go true l = costed l (costing (v .model) (v .row) b) refl
-      go false l = let stands : Stand ≡ Activate = ap (λ (q : Decision). q .shares) (no-leaf-decides b n v refl l) ∙ i in never (cc)
+      go : (t : Bool) → (isTaken (ruling b (ownIn n v) .answer) && not (has (v .active) n)) ≡ t → Activating b n v
+      go true t =
+          let resting = to-wake (isTaken (ruling b (ownIn n v) .answer)) (has (v .active) n) t in
+          let w = taken-is b (ownIn n v) (resting .0) in
+          record { leaf = w .leaf; cost = w .cost; costs = w .costs; off = resting .1 }
+      go false t =
+          never (judged-stays (bookedBy (ruling b (ownIn n v) .answer) b (ruling b (ownIn n v) .cost) (v .share) (v .row) .answer) (v .donors) n
+          (rw t at i))
 
 -- no bio adds to the budget at its place
 no-budget-decided : (b : Bio) (n : ℕ) (v : View) → decision b n v .row .budget .0 ≤ v .row .budget .0
 unfolding decision decisionBy
-no-budget-decided b n v = go (has (v .leaves) n)
+no-budget-decided b n v = go (isTaken (ruling b (ownIn n v) .answer) && not (has (v .active) n))
   where
-    awake : (cost : Abs) (u : Bool)
-        → cond u (judgedAt n v (onLeaf b cost (v .share) (v .row) (v .waiting))) (activates v) .row .budget .0 ≤ v .row .budget .0
-    awake cost true = no-budget-gained b cost (v .share) (v .row) (v .waiting)
-    awake cost false = omega arith
-
-    costed : (k : Costing) → decisionBy k b n v .row .budget .0 ≤ v .row .budget .0
-    costed (Costs cost) = awake cost (has (v .active) n)
-    costed (Uncosted x) = omega arith
-
-    go : (t : Bool) → cond t (decisionBy (costing (v .model) (v .row) b) b n v) (declined NoLeaf v) .row .budget .0 ≤ v .row .budget .0
-    go true = costed (costing (v .model) (v .row) b)
-    go false = omega arith
+    go : (t : Bool)
+        → cond t (activates (ruling b (ownIn n v) .answer) v)
+        (judgedAt n v (bookedBy (ruling b (ownIn n v) .answer) b (ruling b (ownIn n v) .cost) (v .share) (v .row))) .row .budget .0
+        ≤ v .row .budget .0
+    go true = omega arith
+    go false = no-budget-gained b (ruling b (ownIn n v) .cost) (v .share) (v .row) (ruling b (ownIn n v) .answer)
 
 -- a bio joins a queue only where that has room
 joins-room : (b : Bio) (n : ℕ) (v : View) (k : Abs) → decision b n v .queue ≡ Joins k → v .waiting < queueRoom
 unfolding decision decisionBy
-joins-room b n v k = go (has (v .leaves) n)
+joins-room b n v k e = go (isTaken (ruling b (ownIn n v) .answer) && not (has (v .active) n)) refl
   where
-    awake : (cost : Abs) (u : Bool)
-        → cond u (judgedAt n v (onLeaf b cost (v .share) (v .row) (v .waiting))) (activates v) .queue ≡ Joins k → v .waiting < queueRoom
-    awake cost true e = joins-with-room b cost (v .share) (v .row) (v .waiting) k e
-    awake cost false e = never (cc)
-
-    costed : (x : Costing) → decisionBy x b n v .queue ≡ Joins k → v .waiting < queueRoom
-    costed (Costs cost) e = awake cost (has (v .active) n) e
-    costed (Uncosted x) e = never (cc)
-
-    go : (t : Bool) → cond t (decisionBy (costing (v .model) (v .row) b) b n v) (declined NoLeaf v) .queue ≡ Joins k → v .waiting < queueRoom
-    go true e = costed (costing (v .model) (v .row) b) e
-    go false e = never (cc)
+    go : (t : Bool) → (isTaken (ruling b (ownIn n v) .answer) && not (has (v .active) n)) ≡ t → v .waiting < queueRoom
+    go true t = let joins : Stays ≡ Joins k = rw t at e in never (cc)
+    go false t =
+        let waits : ruling b (ownIn n v) .answer ≡ Waits = joins-to-wait b (ruling b (ownIn n v) .cost) (v .share) (v .row) _ (rw t at e) in
+        let taken : isTaken (ruling b (ownIn n v) .answer) ≡ true = ap isTaken waits in
+        waits-there b (ownIn n v) (taken-is b (ownIn n v) taken) (awake _ (has (v .active) n) taken t) waits
 
 -- a decision that is to be carried out, and the state to do it in: that of the bio, or the one in which its leaf is active
 pub record Carries (b : Bio) (c : Controller) (n : ℕ) (r : Decision) (d : Controller) : Type 0 where
@@ -322,20 +353,20 @@ module _ {c : Controller} (s : Sound c) (b : Bio) {n : ℕ} (p : n ≡ placeOf b
           → carried b n (decision b n (viewAt n c)) c ≡ submitted b c
       awake l cost f true o = lands s b l cost (found b c (here l) refl f) (here l) (sym (entered-active n c o))
       awake l cost f false o =
-          let first : activates (viewAt n c) ≡ decision b n (viewAt n c) = activates-first b n (viewAt n c) refl (leaf-is ∙ l) refl f refl o in
+          let first : activates (whenInactive (isForced b)) (viewAt n c) ≡ decision b n (viewAt n c) = rests-decides b n (viewAt n c) (leaf-is ∙ l) f o in
           never (not-active (rw (e ∙ sym first) at k))
 
       costed : isLeaf (c .tree) (b .node) ≡ true → (x : Costing) → costing (c .model) (rowAt c n) b ≡ x
           → carried b n (decision b n (viewAt n c)) c ≡ submitted b c
       costed l (Costs cost) f = awake l cost f (has (c .active) n) refl
       costed l (Uncosted x) f =
-          ap (λ (q : Decision). carried b n q c) (sym (uncosted-decides b n (viewAt n c) refl (leaf-is ∙ l) refl f))
+          ap (λ (q : Decision). carried b n q c) (sym (uncosted-decides b n (viewAt n c) (leaf-is ∙ l) f))
           ∙ declined-carried b c n x ∙ unfit s b l x (found b c (here l) refl f)
 
       go : (t : Bool) → has (c .leaves) n ≡ t → carried b n (decision b n (viewAt n c)) c ≡ submitted b c
       go true l = costed (sym leaf-is ∙ l) (costing (c .model) (rowAt c n) b) refl
       go false l =
-          ap (λ (q : Decision). carried b n q c) (sym (no-leaf-decides b n (viewAt n c) refl l))
+          ap (λ (q : Decision). carried b n q c) (sym (no-leaf-decides b n (viewAt n c) l))
           ∙ declined-carried b c n NoLeaf ∙ no-leaf s b (sym leaf-is ∙ l)
 
   pub at-once : OneOf (0 ∷ 2 ∷ []) (tagOf the-type (r .shares)) → Carries b c n r c

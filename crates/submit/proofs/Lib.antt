@@ -1,2 +1,3 @@
 pub mod Shapes
+pub mod Rulings
 pub mod Decisions

@@ -11,21 +11,22 @@ use Rattle.rules.specs.Numbers.{nodesMost, queueRoom, costMost, debtMost}
 use Rattle.rules.specs.Words.{has}
 use Rattle.rules.specs.Cost.{isForced, bioInRange}
 use Rattle.rules.specs.Tree.{isLeaf}
-use Rattle.rules.specs.Budget.{emptyRow, emptyQueue, rowAt, queueAt, shareAt, putLeaf, noted, rebased, reshared, entered, rowAfter, queueAfter, endsDonation, answerIn, applied, settled, submission, wouldBe}
+use Rattle.rules.specs.Budget.{emptyRow, emptyQueue, rowAt, queueAt, shareAt, putLeaf, noted, fits, rebased, reshared, entered, rowAfter, queueAfter, endsDonation, answerIn, applied, settled, submission, wouldBe}
 use Rattle.rules.specs.Refusals.{firstOf, costChecks, roomChecks, submitChecks}
-use Rattle.rules.specs.Entries.{costing, costingBy, submittedBy, submitted}
+use Rattle.rules.specs.Entries.{costing, submittedBy, submitted}
+use Rattle.rules.specs.Question.{unlessRefused, whenActive}
 use Rattle.rules.specs.Invariant.{Sound, SoundModel, SoundTree, Within}
 use Rattle.rules.specs.Laws.Costs.{priced-sound, bio-in-range, costing-costs-exactly-when}
 use Rattle.rules.specs.Laws.Trees.{leaf-last, last-most}
 use Rattle.rules.specs.Laws.Resharing.{Reweighed, activeWith, activated-is, entering-keeps, entering-reweighs, entered-is-active}
 use Rattle.rules.specs.Laws.Submits.{costIn, reweighed-debt, reweighed-queue, reweighed-cost}
-use Rattle.rules.specs.Laws.Bools.{never}
+use Rattle.rules.specs.Laws.Bools.{never, true-not-false}
 use Rattle.rules.specs.Laws.Verdicts.{first-refused}
-use Rattle.rules.specs.Laws.Answers.{issued-fits}
+use Rattle.rules.specs.Laws.Answers.{answer-by-count, issued-fits, no-refusal}
 use Rattle.rules.specs.Laws.Decisions.{entered-active}
+use Rattle.rules.specs.Laws.Questions.{uncosted-refuses, idle-has-room, costed-in-range, costed-the-cost, costed-within, room-is-left}
 use Rattle.rules.specs.declared.units.Abs.{Abs}
 use Rattle.rules.specs.declared.cost.Bio.{Bio}
-use Rattle.rules.specs.declared.cost.Model.{Model}
 use Rattle.rules.specs.declared.tree.Tree.{Tree}
 use Rattle.rules.specs.declared.budget.Row.{Row}
 use Rattle.rules.specs.declared.budget.Queue.{Queue}
@@ -39,12 +40,12 @@ use Rattle.rules.specs.declared.refusals.Costing.{Costing}
 use Rattle.rules.specs.declared.refusals.Costing.the-variants.{Costs, Refused as Uncosted}
 use Rattle.rules.specs.declared.refusals.Answer.{Answer}
 use Rattle.rules.specs.declared.refusals.Answer.the-variants.{Issued, Waits, OnDebt, Refused as Declined}
-use Rattle.leaf.specs.Alone.{lengthOnly, answerWith, answer-by-count}
+use Rattle.leaf.specs.Alone.{lengthOnly, answerWith}
 use Rattle.leaf.specs.Fit.{CanTake}
 use Rattle.submit.specs.declared.Queueing.{Queueing}
 use Rattle.submit.specs.declared.Queueing.the-variants.{Stays, Joins}
 use Rattle.submit.specs.declared.Judged.{Judged}
-use Rattle.submit.specs.OnLeaf.{CanJudge, queueing, queued, onLeafBy, onLeaf}
+use Rattle.submit.specs.OnLeaf.{isTaken, CanBook, queueing, queued, bookedBy, onLeaf}
 
 -- ---- refusals 7 and 8
 module _ (a : Answer) (cost : Abs) (row : Row) (n : ℕ) where
@@ -81,71 +82,84 @@ placed cost row n = go (leb queueRoom n) refl
     go true e i = never (cc)
     go false e i = leb-false queueRoom n e
 
-module _ (waiting : ℕ) {b : Bio} {cost : Abs} {share : ℕ} {row : Row} {forced : Bool} {answer : Answer} {verdict : Verdict}
-    (can : CanJudge b cost share row) (f : forced ≡ isForced b) (a : answer ≡ answerWith forced cost share row waiting)
-    (v : verdict ≡ firstOf (roomChecks answer cost row (lengthOnly waiting)))
+-- the answer of an active leaf, by what the code finds
+module _ (forced : Bool) (cost : Abs) (share : ℕ) (row : Row) (waiting : ℕ) {answer : Answer} {verdict : Verdict}
+    (a : answer ≡ answerWith forced cost share row waiting) (v : verdict ≡ firstOf (roomChecks answer cost row (lengthOnly waiting)))
   where
-    answer-is : answer ≡ answerWith (isForced b) cost share row waiting
-    answer-is = a ∙ ap (λ (x : Bool). answerWith x cost share row waiting) f
+    by-room : unlessRefused verdict answer ≡ whenActive forced cost share row waiting
+    unfolding whenActive
+    by-room = rw (v, a)
 
-    verdict-is : verdict ≡ firstOf (roomChecks (answerWith (isForced b) cost share row waiting) cost row (lengthOnly waiting))
-    verdict-is = v ∙ ap (λ (x : Answer). firstOf (roomChecks x cost row (lengthOnly waiting))) answer-is
+    pub answers : verdict ≡ Accepted → answer ≡ whenActive forced cost share row waiting
+    unfolding unlessRefused
+    answers e = rw e at by-room
 
-    pub can-take : CanTake answer cost share row
-    can-take = record {
-      books = can .books;
-      cheap = can .cheap;
-      fitting = λ i. issued-fits cost share row (lengthOnly waiting) forced (sym a ∙ i);
-    }
+    pub refuses : (x : Refusal) → verdict ≡ Refused x → Declined x ≡ whenActive forced cost share row waiting
+    unfolding unlessRefused
+    refuses x e = rw e at by-room
 
-    pub accepts : verdict ≡ Accepted → {taken last : Row} {q : Queueing}
-        → taken ≡ rowAfter answer cost share row → last ≡ noted b taken → q ≡ queueing answer cost
-        → _≡_ {A = Judged} (record { answer = answer; row = last; queue = q }) (onLeaf b cost share row waiting)
-    unfolding onLeaf onLeafBy
-    accepts e t l q =
-        rw (l, q, t, answer-is)
-        (ap (λ (x : Verdict). onLeafBy x (answerWith (isForced b) cost share row waiting) b cost share row) (sym e ∙ verdict-is))
+-- a bio that is to wait has a place, and one that is issued fits
+module _ (forced : Bool) (cost : Abs) (share : ℕ) (row : Row) (waiting : ℕ) where
+  pub waits-with-room : whenActive forced cost share row waiting ≡ Waits → waiting < queueRoom
+  unfolding whenActive unlessRefused
+  waits-with-room =
+      let answer : Answer = answerWith forced cost share row waiting in
+      go answer (firstOf (roomChecks answer cost row (lengthOnly waiting))) refl
+    where
+      go : (a : Answer) (v : Verdict) → firstOf (roomChecks a cost row (lengthOnly waiting)) ≡ v → unlessRefused v a ≡ Waits → waiting < queueRoom
+      go a Accepted f i = placed cost row waiting (rw i at f)
+      go a (Refused x) f i = never (cc)
 
-    pub refuses : (x : Refusal) → verdict ≡ Refused x
-        → _≡_ {A = Judged} (record { answer = Declined x; row = row; queue = Stays }) (onLeaf b cost share row waiting)
-    unfolding onLeaf onLeafBy
-    refuses x e =
-        ap (λ (y : Verdict). onLeafBy y (answerWith (isForced b) cost share row waiting) b cost share row) (sym e ∙ verdict-is)
+  pub issues-what-fits : whenActive forced cost share row waiting ≡ Issued → fits cost share row ≡ true
+  unfolding whenActive unlessRefused
+  issues-what-fits e =
+      issued-fits cost share row (lengthOnly waiting) forced
+      (go (answerWith forced cost share row waiting) (firstOf (roomChecks (answerWith forced cost share row waiting) cost row (lengthOnly waiting))) e)
+    where
+      go : (a : Answer) (v : Verdict) → unlessRefused v a ≡ Issued → a ≡ Issued
+      go a Accepted i = i
+      go a (Refused x) i = never (cc)
 
--- a bio joins a queue only where that has room
-pub joins-with-room : (b : Bio) (cost : Abs) (share : ℕ) (row : Row) (waiting : ℕ) (k : Abs) → onLeaf b cost share row waiting .queue ≡ Joins k
-    → waiting < queueRoom
-unfolding onLeaf onLeafBy queueing
-joins-with-room b cost share row waiting k =
-    let answer : Answer = answerWith (isForced b) cost share row waiting in
-    go answer (firstOf (roomChecks answer cost row (lengthOnly waiting))) refl
-  where
-    go : (a : Answer) (v : Verdict) → firstOf (roomChecks a cost row (lengthOnly waiting)) ≡ v → onLeafBy v a b cost share row .queue ≡ Joins k
-        → waiting < queueRoom
-    go Waits Accepted e i = placed cost row waiting e
-    go Issued Accepted e i = never (cc)
-    go OnDebt Accepted e i = never (cc)
-    go (Declined x) Accepted e i = never (cc)
-    go a (Refused x) e i = never (cc)
+-- what an answer leaves, as the code works it out
+module _ (b : Bio) (cost : Abs) (share : ℕ) (row : Row) where
+  pub books : (a : Answer) → isTaken a ≡ true → {taken last : Row} {q : Queueing}
+      → taken ≡ rowAfter a cost share row → last ≡ noted b taken → q ≡ queueing a cost
+      → _≡_ {A = Judged} (record { answer = a; row = last; queue = q }) (bookedBy a b cost share row)
+  unfolding bookedBy
+  books Issued k t l q = rw (l, q, t)
+  books Waits k t l q = rw (l, q, t)
+  books OnDebt k t l q = rw (l, q, t)
+  books (Declined x) k t l q = absurd (true-not-false k refl)
 
--- no bio adds to its leaf's budget
-no-more : (a : Answer) (cost : Abs) (share : ℕ) (r : Row) → rowAfter a cost share r .budget .0 ≤ r .budget .0
-unfolding rowAfter
-no-more Issued cost share r = omega arith
-no-more Waits cost share r = omega arith
-no-more OnDebt cost share r = omega arith
-no-more (Declined x) cost share r = omega arith
+  pub books-nothing : (a : Answer) → isTaken a ≡ false → _≡_ {A = Judged} (record { answer = a; row = row; queue = Stays }) (bookedBy a b cost share row)
+  unfolding bookedBy
+  books-nothing Issued k = absurd (true-not-false refl k)
+  books-nothing Waits k = absurd (true-not-false refl k)
+  books-nothing OnDebt k = absurd (true-not-false refl k)
+  books-nothing (Declined x) k = refl
 
-pub no-budget-gained : (b : Bio) (cost : Abs) (share : ℕ) (row : Row) (waiting : ℕ)
-    → onLeaf b cost share row waiting .row .budget .0 ≤ row .budget .0
-unfolding onLeaf onLeafBy
-no-budget-gained b cost share row waiting =
-    let answer : Answer = answerWith (isForced b) cost share row waiting in
-    go answer (firstOf (roomChecks answer cost row (lengthOnly waiting)))
-  where
-    go : (a : Answer) (v : Verdict) → onLeafBy v a b cost share row .row .budget .0 ≤ row .budget .0
-    go a Accepted = no-more a cost share row
-    go a (Refused x) = omega arith
+  pub booked-answer : (a : Answer) → bookedBy a b cost share row .answer ≡ a
+  unfolding bookedBy
+  booked-answer Issued = refl
+  booked-answer Waits = refl
+  booked-answer OnDebt = refl
+  booked-answer (Declined x) = refl
+
+  -- only a bio that is to wait joins the queue
+  pub joins-to-wait : (a : Answer) {k : Abs} → bookedBy a b cost share row .queue ≡ Joins k → a ≡ Waits
+  unfolding bookedBy queueing
+  joins-to-wait Issued e = never (cc)
+  joins-to-wait Waits e = refl
+  joins-to-wait OnDebt e = never (cc)
+  joins-to-wait (Declined x) e = never (cc)
+
+  -- no bio adds to its leaf's budget
+  pub no-budget-gained : (a : Answer) → bookedBy a b cost share row .row .budget .0 ≤ row .budget .0
+  unfolding bookedBy rowAfter
+  no-budget-gained Issued = omega arith
+  no-budget-gained Waits = omega arith
+  no-budget-gained OnDebt = omega arith
+  no-budget-gained (Declined x) = omega arith
 
 -- ---- the bio's node
 pub leaf-node : (t : Tree) (n : ℕ) → SoundTree t → isLeaf t n ≡ true → n < nodesMost
@@ -197,22 +211,6 @@ found b c m e i = ap (λ (k : ℕ). costing (c .model) (rowAt c k) b) (sym m) �
 pub model-is-sound : {c : Controller} → Sound c → SoundModel (c .model)
 model-is-sound s = rw (s .model .same) (priced-sound (s .model .rates) (s .model .valid))
 
-idle-has-room : (a : Answer) (cost : Abs) (row : Row) (q : Queue) → row .debt .0 ≡ 0 → q .len ≡ 0 → cost .0 ≤ costMost
-    → firstOf (roomChecks a cost row q) ≡ Accepted
-unfolding roomChecks
-idle-has-room Issued cost row q d l k = refl
-idle-has-room Waits cost row q d l k = rw (lt-leb queueRoom (q .len) (omega arith))
-idle-has-room OnDebt cost row q d l k = rw (le-ltb debtMost (row .debt .0 + cost .0) (omega arith))
-idle-has-room (Declined x) cost row q d l k = refl
-
-uncosted : (model : Model) (row : Row) (b : Bio) (x : Refusal) → costing model row b ≡ Uncosted x → firstOf (costChecks model row b) ≡ Refused x
-unfolding costing costingBy
-uncosted model row b x = go (firstOf (costChecks model row b))
-  where
-    go : (v : Verdict) → costingBy v model row b ≡ Uncosted x → v ≡ Refused x
-    go Accepted e = never (cc)
-    go (Refused y) e = cc
-
 -- what becomes of a queue is what the rule says of it
 queued-is : (a : Answer) (cost : Abs) (id : ℕ) (q : Queue) → queued (queueing a cost) id q ≡ queueAfter a id cost q
 unfolding queued queueing queueAfter
@@ -220,6 +218,29 @@ queued-is Issued cost id q = refl
 queued-is Waits cost id q = refl
 queued-is OnDebt cost id q = refl
 queued-is (Declined x) cost id q = refl
+
+-- what a bio comes to on its leaf, by the verdict on its room
+abbrev onLeafBy : Verdict → Answer → Bio → Abs → ℕ → Row → Judged
+onLeafBy Accepted answer b cost share row =
+    record { answer = answer; row = noted b (rowAfter answer cost share row); queue = queueing answer cost }
+onLeafBy (Refused x) answer b cost share row = record { answer = Declined x; row = row; queue = Stays }
+
+on-leaf-by : (b : Bio) (cost : Abs) (share : ℕ) (row : Row) (waiting : ℕ)
+    → onLeaf b cost share row waiting
+    ≡ onLeafBy (firstOf (roomChecks (answerWith (isForced b) cost share row waiting) cost row (lengthOnly waiting)))
+    (answerWith (isForced b) cost share row waiting) b cost share row
+unfolding onLeaf whenActive unlessRefused bookedBy
+on-leaf-by b cost share row waiting =
+    let answer : Answer = answerWith (isForced b) cost share row waiting in
+    go answer (firstOf (roomChecks answer cost row (lengthOnly waiting))) (no-refusal cost share row (lengthOnly waiting) (isForced b))
+  where
+    go : (a : Answer) (v : Verdict) → ((x : Refusal) → a ≡ Declined x → ⊥)
+        → bookedBy (unlessRefused v a) b cost share row ≡ onLeafBy v a b cost share row
+    go Issued Accepted h = refl
+    go Waits Accepted h = refl
+    go OnDebt Accepted h = refl
+    go (Declined x) Accepted h = absurd (h x refl)
+    go a (Refused x) h = refl
 
 -- what is judged in a state, by the verdict there
 abbrev judgedBy : Verdict → Bio → Controller → Submitted
@@ -232,18 +253,19 @@ judged b c = landed b (b .node) (onLeaf b (costIn c b) (shareAt c (b .node)) (ro
 -- of the queue the verdict looks at how many wait
 by-verdict : (b : Bio) (c : Controller)
     → judged b c ≡ judgedBy (firstOf (roomChecks (answerIn c b) (costIn c b) (rowAt c (b .node)) (queueAt c (b .node)))) b c
-unfolding onLeaf answerIn roomChecks
+unfolding answerIn roomChecks
 by-verdict b c =
-    ap (λ (a : Answer). landed b (b .node) (onLeafBy (firstOf (roomChecks a (costIn c b) (rowAt c (b .node)) (queueAt c (b .node)))) a b (costIn c b) (shareAt c (b .node)) (rowAt c (b .node))) c)
+    ap (λ (j : Judged). landed b (b .node) j c) (on-leaf-by b (costIn c b) (shareAt c (b .node)) (rowAt c (b .node)) (queueAt c (b .node) .len))
+    ∙ ap (λ (a : Answer). landed b (b .node) (onLeafBy (firstOf (roomChecks a (costIn c b) (rowAt c (b .node)) (queueAt c (b .node)))) a b (costIn c b) (shareAt c (b .node)) (rowAt c (b .node))) c)
     (sym (answer-by-count (isForced b) (costIn c b) (shareAt c (b .node)) (rowAt c (b .node)) (queueAt c (b .node))))
 
 alike : (b : Bio) (c : Controller) (v : Verdict) → entered (b .node) c ≡ c → judgedBy v b c ≡ submittedBy v b c
-unfolding onLeafBy submittedBy submission wouldBe settled applied queued
+unfolding submittedBy submission wouldBe settled applied queued
 alike b c Accepted t = rw (queued-is (answerIn c b) (costIn c b) (b .id) (queueAt c (b .node)), t)
 alike b c (Refused x) t = rw (set-getD (c .rows) (b .node) emptyRow, set-getD (c .queues) (b .node) emptyQueue)
 
 woken-alike : (b : Bio) (c : Controller) → judgedBy Accepted b (entered (b .node) c) ≡ submittedBy Accepted b c
-unfolding onLeafBy submittedBy submission wouldBe settled applied
+unfolding submittedBy submission wouldBe settled applied
 woken-alike b c =
     let d : Controller = entered (b .node) c in
     rw (queued-is (answerIn d b) (costIn d b) (b .id) (queueAt d (b .node)))
@@ -258,40 +280,26 @@ module _ {c : Controller} (s : Sound c) (b : Bio) where
     unfolding submitted submittedBy submitChecks
     unfit x e =
         rw leaf
-        (ap (λ (v : Verdict). submittedBy v b c) (sym (first-refused (costChecks (c .model) (rowAt c (b .node)) b) _ x (uncosted (c .model) (rowAt c (b .node)) b x e))))
+        (ap (λ (v : Verdict). submittedBy v b c) (sym (first-refused (costChecks (c .model) (rowAt c (b .node)) b) _ x (uncosted-refuses (c .model) (rowAt c (b .node)) b x e))))
 
     module _ (cost : Abs) (e : costing (c .model) (rowAt c (b .node)) b ≡ Costs cost) where
-      range : bioInRange b ≡ true
-      range = bio-in-range b .1 (costing-costs-exactly-when (c .model) (rowAt c (b .node)) b cost .0 e .0 .0)
-
-      same : cost ≡ costIn c b
-      same = costing-costs-exactly-when (c .model) (rowAt c (b .node)) b cost .0 e .1
-
-      small : costIn c b .0 ≤ costMost
-      small = costing-costs-exactly-when (c .model) (rowAt c (b .node)) b cost .0 e .0 .1
-
       pub ready-there : {n : ℕ} {d : Controller} → n ≡ b .node → d ≡ entered n c → Ready b cost d
       ready-there m i =
           rw (i, m)
           (record {
             sound = entering-keeps s (b .node) leaf;
             active = entered-is-active s (b .node) leaf;
-            range = range;
-            same = same ∙ sym (reweighed-cost (entering-reweighs s (b .node)) b (b .node));
-            cheap = rw same small;
+            range = costed-in-range b c cost e;
+            same = costed-the-cost b c cost e ∙ sym (reweighed-cost (entering-reweighs s (b .node)) b (b .node));
+            cheap = rw (costed-the-cost b c cost e) (costed-within b c cost e);
           })
-
-      first : firstOf (submitChecks b c)
-          ≡ firstOf (roomChecks (wouldBe c b) (costIn c b) (rowAt c (b .node)) (queueAt c (b .node)))
-      unfolding submitChecks costChecks
-      first = rw (leaf, range, le-ltb costMost (costIn c b .0) small)
 
       in-place : has (c .active) (b .node) ≡ true → judged b (entered (b .node) c) ≡ submitted b c
       unfolding answerIn submitted wouldBe
       in-place on =
           let there : entered (b .node) c ≡ c = entered-active (b .node) c on in
           ap (judged b) there ∙ by-verdict b c ∙ alike b c (firstOf (roomChecks (answerIn c b) (costIn c b) (rowAt c (b .node)) (queueAt c (b .node)))) there
-          ∙ ap (λ (v : Verdict). submittedBy v b c) (rw (first, there))
+          ∙ ap (λ (v : Verdict). submittedBy v b c) (rw (room-is-left s b leaf cost e, there))
 
       woken : has (c .active) (b .node) ≡ false → judged b (entered (b .node) c) ≡ submitted b c
       unfolding answerIn submitted
@@ -302,10 +310,11 @@ module _ {c : Controller} (s : Sound c) (b : Bio) where
           by-verdict b d
           ∙ ap (λ (v : Verdict). judgedBy v b d)
           (idle-has-room (answerIn d b) (costIn d b) (rowAt d (b .node)) (queueAt d (b .node)) (reweighed-debt w (b .node) ∙ here .no-debt)
-          (ap (λ (q : Queue). q .len) (reweighed-queue w (b .node)) ∙ here .no-waiter) (rw (reweighed-cost w b (b .node)) small))
+          (ap (λ (q : Queue). q .len) (reweighed-queue w (b .node)) ∙ here .no-waiter) (rw (reweighed-cost w b (b .node)) (costed-within b c cost e)))
           ∙ woken-alike b c
           ∙ ap (λ (v : Verdict). submittedBy v b c)
-          (sym (first ∙ idle-has-room (wouldBe c b) (costIn c b) (rowAt c (b .node)) (queueAt c (b .node)) (here .no-debt) (here .no-waiter) small))
+          (sym (room-is-left s b leaf cost e ∙ idle-has-room (wouldBe c b) (costIn c b) (rowAt c (b .node)) (queueAt c (b .node)) (here .no-debt) (here .no-waiter)
+          (costed-within b c cost e)))
 
       pub submits : {n share : ℕ} {d : Controller} {j : Judged} {r : Submitted} → n ≡ b .node → d ≡ entered n c → share ≡ shareAt d n
           → j ≡ onLeaf b cost share (rowAt d n) (queueAt d n .len) → r ≡ landed b n j d → r ≡ submitted b c

@@ -1,24 +1,23 @@
 -- What a bio is shown of the state, what is asked of that, and what the bio comes to by it.
 -- Assumes nothing.
 use mathlib.Core.Path.{_≡_}
-use mathlib.Core.Bool.{true, cond, _&&_}
+use mathlib.Core.Bool.{true, cond, not, _&&_}
 use Prim.Native.Nat.{ℕ, _<_}
 use lib.Dec.{ltb}
 use Rattle.rules.specs.Numbers.{nodesMost}
 use Rattle.rules.specs.Words.{has}
 use Rattle.rules.specs.Budget.{rowAt, queueAt, shareAt, endsDonation}
-use Rattle.rules.specs.Entries.{costing}
+use Rattle.rules.specs.Question.{ownOf, ruling}
 use Rattle.rules.specs.Invariant.{SoundModel}
 use Rattle.rules.specs.declared.cost.Bio.{Bio}
 use Rattle.rules.specs.declared.cost.Model.{Model}
 use Rattle.rules.specs.declared.budget.Row.{Row}
+use Rattle.rules.specs.declared.budget.Own.{Own}
 use Rattle.rules.specs.declared.budget.Controller.{Controller}
 use Rattle.rules.specs.declared.refusals.Refusal.{Refusal}
-use Rattle.rules.specs.declared.refusals.Refusal.the-variants.{NoLeaf}
-use Rattle.rules.specs.declared.refusals.Costing.{Costing}
-use Rattle.rules.specs.declared.refusals.Costing.the-variants.{Costs, Refused as Uncosted}
+use Rattle.rules.specs.declared.refusals.Ruling.{Ruling}
 use Rattle.rules.specs.declared.refusals.Answer.{Answer}
-use Rattle.rules.specs.declared.refusals.Answer.the-variants.{Waits, Refused as Declined}
+use Rattle.rules.specs.declared.refusals.Answer.the-variants.{Refused as Declined}
 use Rattle.leaf.specs.Fit.{FitRow}
 use Rattle.submit.specs.declared.Queueing.the-variants.{Stays}
 use Rattle.submit.specs.declared.Judged.{Judged}
@@ -26,7 +25,7 @@ use Rattle.submit.specs.declared.View.{View}
 use Rattle.submit.specs.declared.Shares.{Shares}
 use Rattle.submit.specs.declared.Shares.the-variants.{Stand, Activate, Return}
 use Rattle.submit.specs.declared.Decision.{Decision}
-use Rattle.submit.specs.OnLeaf.{onLeaf}
+use Rattle.submit.specs.OnLeaf.{isTaken, bookedBy}
 
 -- where the books of a bio's node stand: those of the root, which is no leaf, where no tree has that node
 unfoldable pub placeOf : Bio → ℕ
@@ -61,19 +60,23 @@ sharesAfter answer donors n = cond (endsDonation answer && has donors n) Return 
 abbrev pub declined : Refusal → View → Decision
 declined x v = record { answer = Declined x; shares = Stand; row = v .row; queue = Stays }
 
--- "1. An inactive leaf becomes active ..": the bio is judged in the state in which it is, and until then it waits
-abbrev pub activates : View → Decision
-activates v = record { answer = Waits; shares = Activate; row = v .row; queue = Stays }
+-- "1. An inactive leaf becomes active ..": nothing is booked until it is
+abbrev pub activates : Answer → View → Decision
+activates answer v = record { answer = answer; shares = Activate; row = v .row; queue = Stays }
 
 abbrev pub judgedAt : ℕ → View → Judged → Decision
 judgedAt n v j =
     record { answer = j .answer; shares = sharesAfter (j .answer) (v .donors) n; row = j .row; queue = j .queue }
 
-unfoldable pub decisionBy : Costing → Bio → ℕ → View → Decision
-decisionBy (Costs cost) b n v =
-    cond (has (v .active) n) (judgedAt n v (onLeaf b cost (v .share) (v .row) (v .waiting))) (activates v)
-decisionBy (Uncosted x) b n v = declined x v
+-- what is the node's own of a view
+abbrev pub ownIn : ℕ → View → Own
+ownIn n v = ownOf n (v .leaves) (v .active) (v .model) (v .share) (v .row) (v .waiting)
 
--- refusal 4, then 5 and 6, and what is left
+-- what is ruled on the bio, by which the question goes too, and what that does
+unfoldable pub decisionBy : Ruling → Bio → ℕ → View → Decision
+decisionBy r b n v =
+    cond (isTaken (r .answer) && not (has (v .active) n)) (activates (r .answer) v)
+    (judgedAt n v (bookedBy (r .answer) b (r .cost) (v .share) (v .row)))
+
 unfoldable pub decision : Bio → ℕ → View → Decision
-decision b n v = cond (has (v .leaves) n) (decisionBy (costing (v .model) (v .row) b) b n v) (declined NoLeaf v)
+decision b n v = decisionBy (ruling b (ownIn n v)) b n v

@@ -10,9 +10,11 @@ ghost use Rattle.rules.specs.Refusals.{firstOf, roomChecks, answerPaper, answer
 ghost use Rattle.rules.specs.Entries.{submitted};
 ghost use Rattle.rules.specs.Invariant.{Sound, SoundQueue};
 ghost use Rattle.leaf.specs.Alone.{lengthOnly};
-ghost use Rattle.submit.specs.OnLeaf.{CanJudge, queueing, onLeaf};
+ghost use Rattle.rules.specs.Question.{whenActive, whenInactive, ownOf, ruling};
+ghost use Rattle.submit.specs.OnLeaf.{CanAnswer, CanRule, CanBook, queueing, isTaken, bookedBy};
 ghost use Rattle.submit.specs.Decision.{placeOf, viewOf, CanDecide, sharesAfter, decision};
 use rules::budget::Controller;
+use rules::budget::Own;
 use rules::budget::Queue;
 use rules::budget::Row;
 use rules::budget::Submitted;
@@ -21,6 +23,7 @@ use rules::cost::Model;
 use rules::refusals::Answer;
 use rules::refusals::Costing;
 use rules::refusals::Refusal;
+use rules::refusals::Ruling;
 use rules::refusals::Verdict;
 use rules::units::Abs;
 
@@ -119,6 +122,96 @@ fn noted(bio: Bio, row: Row) -> Row
     }
 }
 
+// Refusals 7 and 8, then the answer, on a leaf that is active.
+fn when_active(forced: bool, cost: Abs, share: u64, row: Row, waiting: u8) -> Answer
+    requires { ⌜ CanAnswer cost share row ⌝ }
+    ensures { λ r. ⌜ r ≡ whenActive forced cost share row waiting ⌝ }
+{
+    let answer = leaf::submission::answer_to(forced, cost, share, row, waiting);
+    let verdict = room(answer, cost, row, waiting);
+    match verdict {
+        Verdict::Accepted => answer,
+        Verdict::Refused(x) => Answer::Refused(x),
+    }
+}
+
+// Request Six: "For any other node it is .. otherwise waits or on debt, by the forced flag."
+fn when_inactive(forced: bool) -> Answer
+    ensures { λ r. ⌜ r ≡ whenInactive forced ⌝ }
+{
+    if forced {
+        Answer::OnDebt
+    } else {
+        Answer::Waits
+    }
+}
+
+// What is the node's own, by the sets, the model and its books.
+pub fn own_of(
+    node: usize,
+    leaves: u64,
+    active: u64,
+    model: Model,
+    share: u32,
+    row: Row,
+    waiting: u8,
+) -> Own
+    requires { ⌜ node < nodesMost ⌝ }
+    ensures { λ r. ⌜ r ≡ ownOf node leaves active model share row waiting ⌝ }
+{
+    Own {
+        leaf: sets::has(leaves, node),
+        active: sets::has(active, node),
+        model,
+        share,
+        row,
+        waiting,
+    }
+}
+
+// The decision on a bio, by which submission and question go: refusals 4 to 8 in their order, or the answer. It sees nothing
+// but what is the node's own.
+pub fn rule(bio: Bio, own: Own) -> Ruling
+    requires { ⌜ CanRule own ⌝ }
+    ensures { λ r. ⌜ r ≡ ruling bio own ⌝ }
+{
+    if !own.leaf {
+        return Ruling {
+            answer: Answer::Refused(Refusal::NoLeaf),
+            cost: Abs(0),
+        };
+    }
+    let model = own.model;
+    let row = own.row;
+    let costing = cost::cost_of(model, row, bio);
+    match costing {
+        Costing::Costs(cost) => {
+            let forced = cost::is_forced(bio);
+            if own.active {
+                let answer = when_active(forced, cost, wide(own.share), row, own.waiting);
+                return Ruling { answer, cost };
+            }
+            let answer = when_inactive(forced);
+            Ruling { answer, cost }
+        }
+        Costing::Refused(x) => Ruling {
+            answer: Answer::Refused(x),
+            cost: Abs(0),
+        },
+    }
+}
+
+fn is_taken(answer: Answer) -> bool
+    ensures { λ r. ⌜ r ≡ isTaken answer ⌝ }
+{
+    match answer {
+        Answer::Issued => true,
+        Answer::Waits => true,
+        Answer::OnDebt => true,
+        Answer::Refused(_) => false,
+    }
+}
+
 // What a bio comes to on its leaf: the answer, the leaf's row after it, and what becomes of the queue.
 struct Judged {
     answer: Answer,
@@ -126,28 +219,24 @@ struct Judged {
     queue: Queueing,
 }
 
-// Refusals 7 and 8, then the answer, on a leaf that is active. A refused bio leaves its leaf as it was.
-fn on_leaf(bio: Bio, cost: Abs, share: u64, row: Row, waiting: u8) -> Judged
-    requires { ⌜ CanJudge bio cost share row ⌝ }
-    ensures { λ r. ⌜ r ≡ onLeaf bio cost share row waiting ⌝ }
+// What an answer leaves on a leaf that is active. A refused bio leaves its leaf as it was.
+fn booked(bio: Bio, answer: Answer, cost: Abs, share: u64, row: Row) -> Judged
+    requires { ⌜ CanBook bio answer cost share row ⌝ }
+    ensures { λ r. ⌜ r ≡ bookedBy answer bio cost share row ⌝ }
 {
-    let answer = leaf::submission::answer_to(cost::is_forced(bio), cost, share, row, waiting);
-    let verdict = room(answer, cost, row, waiting);
-    match verdict {
-        Verdict::Accepted => {
-            let taken = leaf::submission::row_after(answer, cost, share, row);
-            let last = noted(bio, taken);
-            Judged {
-                answer,
-                row: last,
-                queue: queueing_of(answer, cost),
-            }
-        }
-        Verdict::Refused(x) => Judged {
-            answer: Answer::Refused(x),
-            row,
-            queue: Queueing::Stays,
-        },
+    if is_taken(answer) {
+        let taken = leaf::submission::row_after(answer, cost, share, row);
+        let last = noted(bio, taken);
+        return Judged {
+            answer,
+            row: last,
+            queue: queueing_of(answer, cost),
+        };
+    }
+    Judged {
+        answer,
+        row,
+        queue: Queueing::Stays,
     }
 }
 
@@ -220,45 +309,29 @@ pub fn decide(bio: Bio, node: usize, view: View) -> Decision
     requires { ⌜ CanDecide node view ⌝ }
     ensures { λ r. ⌜ r ≡ decision bio node view ⌝ }
 {
+    let model = view.model;
     let row = view.row;
-    if !sets::has(view.leaves, node) {
+    let own = own_of(node, view.leaves, view.active, model, view.share, row, view.waiting);
+    let ruled = rule(bio, own);
+    let answer = ruled.answer;
+    let cost = ruled.cost;
+    // "1. An inactive leaf becomes active .." first; until then nothing is booked.
+    if is_taken(answer) & !own.active {
         return Decision {
-            answer: Answer::Refused(Refusal::NoLeaf),
-            shares: Shares::Stand,
+            answer,
+            shares: Shares::Activate,
             row,
             queue: Queueing::Stays,
         };
     }
-    let model = view.model;
-    let costing = cost::cost_of(model, row, bio);
-    match costing {
-        Costing::Costs(cost) => {
-            // "1. An inactive leaf becomes active .." first; until then the bio is not judged.
-            if !sets::has(view.active, node) {
-                return Decision {
-                    answer: Answer::Waits,
-                    shares: Shares::Activate,
-                    row,
-                    queue: Queueing::Stays,
-                };
-            }
-            let judged = on_leaf(bio, cost, wide(view.share), row, view.waiting);
-            let answer = judged.answer;
-            let next = judged.row;
-            let queue = judged.queue;
-            Decision {
-                answer,
-                shares: shares_after(answer, view.donors, node),
-                row: next,
-                queue,
-            }
-        }
-        Costing::Refused(x) => Decision {
-            answer: Answer::Refused(x),
-            shares: Shares::Stand,
-            row,
-            queue: Queueing::Stays,
-        },
+    let judged = booked(bio, answer, cost, wide(view.share), row);
+    let next = judged.row;
+    let queue = judged.queue;
+    Decision {
+        answer,
+        shares: shares_after(answer, view.donors, node),
+        row: next,
+        queue,
     }
 }
 

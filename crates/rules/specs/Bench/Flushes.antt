@@ -23,7 +23,7 @@ use Rattle.rules.specs.declared.refusals.Count.the-variants.{Released}
 use Rattle.rules.specs.declared.refusals.Verdict.the-variants.{Accepted}
 use Rattle.rules.specs.declared.refusals.Refusal.the-variants.{BadBio, QueueFull}
 use Rattle.rules.specs.Bench.{computed, atZero, tree6, tree7}
-use Rattle.rules.specs.Bench.Run.{Move, replies, wants, left, runTree, ask, tickTo, plans}
+use Rattle.rules.specs.Bench.Run.{Move, replies, wants, left, runTree, send, tickTo, plans}
 use Rattle.rules.specs.Bench.Edges.{Seen, see, allSame, leafNumbers, queueNumbers, bookNumbers, top, leaf1, leaf2, leaf3, heads, saved6, waits6, owes6}
 
 -- ---- ssd_dfl of the devices, whose six prices differ: a read's page, sequential base and random base are 8,383, 103,575 and
@@ -162,7 +162,7 @@ flush-books-hold = refl
 
 -- ---- a run of leaf 1, alone, with the budget of each tick worked out to the last nanosecond
 abbrev flushed : ℕ → ℕ → ℕ → Answer → Move
-flushed flags id sector answer = ask 1 flags id sector 0 answer
+flushed flags id sector answer = send 1 flags id sector 0 answer
 
 pub flushing : List Move
 flushing =
@@ -171,13 +171,13 @@ flushing =
     ∷ tickTo 9572 1 (Released 0) (0 ∷ [])
     ∷ tickTo 9573 1 (Released 1) (1 ∷ [])
     -- the read behind it is the leaf's first: 117,399, where a sequential one costs 111,958
-    ∷ ask 1 0 2 0 4096 Waits
+    ∷ send 1 0 2 0 4096 Waits
     ∷ tickTo 121531 1 (Released 0) (0 ∷ [])
     ∷ tickTo 126972 1 (Released 1) (2 ∷ [])
     -- a flush far away, between two sequential reads
     ∷ flushed 1 3 1000000 Waits
     ∷ tickTo 136545 1 (Released 1) (3 ∷ [])
-    ∷ ask 1 0 4 8 4096 Waits
+    ∷ send 1 0 4 8 4096 Waits
     ∷ tickTo 248502 1 (Released 0) (0 ∷ [])
     ∷ tickTo 248503 1 (Released 1) (4 ∷ [])
     -- on debt, behind it, and on debt again; four that are refused 5

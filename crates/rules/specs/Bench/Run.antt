@@ -9,6 +9,7 @@ use Rattle.rules.specs.Units.{virt}
 use Rattle.rules.specs.Budget.{rowAt, shareAt, withClock, withTimes}
 use Rattle.rules.specs.Tick.{tick}
 use Rattle.rules.specs.Plan.{plan}
+use Rattle.rules.specs.Question.{question}
 use Rattle.rules.specs.Entries.{started, submitted, ticked, lentOf, planned, setBy}
 use Rattle.rules.specs.Ledger.{Call, after}
 use Rattle.rules.specs.declared.cost.Rates.{Rates}
@@ -38,6 +39,7 @@ pub record Move : Type 0 where
 -- what a call answers, a tick with its buffer
 abbrev reply : Call → Controller → Reply
 reply (Call.submit b) c = toBio (submitted b c .answer)
+reply (Call.ask b) c = toBio (question b c)
 reply (Call.tick time lent) c = toTick (ticked time lent c .answer) (lentOf time lent c)
 reply Call.plan c = toOther (planned c .answer)
 reply (Call.set x) c = toOther (setBy x c .answer)
@@ -56,8 +58,8 @@ left [] c = c
 left (m ∷ ms) c = left ms (after (m .call) c)
 
 -- a bio of node, flags, id, sector and bytes; a tick to a time with so many places, each of which has 0
-abbrev pub ask : ℕ → ℕ → ℕ → ℕ → ℕ → Answer → Move
-ask node flags id sector bytes answer = record {
+abbrev pub send : ℕ → ℕ → ℕ → ℕ → ℕ → Answer → Move
+send node flags id sector bytes answer = record {
   call = Call.submit (record { node = node; flags = flags; id = id; sector = sector; bytes = bytes });
   want = toBio answer;
 }
@@ -84,47 +86,47 @@ runRates = record { rbps = 409600000; rseqiops = 50000; rrandiops = 10000; wbps 
 unfoldable pub begun : Controller
 begun = started runTree runRates 0 .state
 
-pub moves : List Move
+unfoldable pub moves : List Move
 moves =
     -- nothing has passed and nobody is active yet; a write of three pages is too dear
     plans (Refused NothingPassed)
     ∷ rate 0 (Refused BadVrate)
-    ∷ ask 0 0 1 0 4096 (Declined NoLeaf)
-    ∷ ask 1 0 2 0 0 (Declined BadBio)
-    ∷ ask 1 1 3 0 12288 (Declined TooDear)
+    ∷ send 0 0 1 0 4096 (Declined NoLeaf)
+    ∷ send 1 0 2 0 0 (Declined BadBio)
+    ∷ send 1 1 3 0 12288 (Declined TooDear)
     -- both leaves wake, wait and are released; the times between are refused
-    ∷ ask 1 0 4 0 4096 Waits
+    ∷ send 1 0 4 0 4096 Waits
     ∷ tickTo 100000 1 (Released 1) (4 ∷ [])
-    ∷ ask 2 0 5 0 4096 Waits
+    ∷ send 2 0 5 0 4096 Waits
     ∷ tickTo 100000 0 (Unticked FewPlaces) []
     ∷ tickTo 99999 1 (Unticked TimeBack) (0 ∷ [])
     ∷ tickTo 1000100001 1 (Unticked TimeFar) (0 ∷ [])
     ∷ tickTo 499999 2 (Released 1) (5 ∷ 0 ∷ [])
     -- B9: a debt that a tick of 0 repays but for 1, and a tick of 1 clears
-    ∷ ask 1 2 6 100000 4096 OnDebt
+    ∷ send 1 2 6 100000 4096 OnDebt
     ∷ tickTo 499999 0 (Released 0) []
     ∷ tickTo 500000 0 (Released 0) []
-    ∷ ask 2 0 7 8 4096 Issued
+    ∷ send 2 0 7 8 4096 Issued
     -- a full queue; the plan makes the other leaf a donor, which then waits
-    ∷ ask 1 0 8 0 4096 Waits
-    ∷ ask 1 0 9 0 4096 Waits
-    ∷ ask 1 0 10 0 4096 Waits
-    ∷ ask 1 0 11 0 4096 Waits
-    ∷ ask 1 0 12 0 4096 Waits
-    ∷ ask 1 0 13 0 4096 Waits
-    ∷ ask 1 0 14 0 4096 Waits
-    ∷ ask 1 0 15 0 4096 Waits
-    ∷ ask 1 0 16 0 4096 (Declined QueueFull)
+    ∷ send 1 0 8 0 4096 Waits
+    ∷ send 1 0 9 0 4096 Waits
+    ∷ send 1 0 10 0 4096 Waits
+    ∷ send 1 0 11 0 4096 Waits
+    ∷ send 1 0 12 0 4096 Waits
+    ∷ send 1 0 13 0 4096 Waits
+    ∷ send 1 0 14 0 4096 Waits
+    ∷ send 1 0 15 0 4096 Waits
+    ∷ send 1 0 16 0 4096 (Declined QueueFull)
     ∷ plans Accepted
-    ∷ ask 2 0 17 0 1048576 Waits
+    ∷ send 2 0 17 0 1048576 Waits
     -- four times as fast: all are released, by rising leaf, and a third second is too much for E
     ∷ rate 400 Accepted
     ∷ tickTo 1000500000 10 (Released 9) (8 ∷ 9 ∷ 10 ∷ 11 ∷ 12 ∷ 13 ∷ 14 ∷ 15 ∷ 17 ∷ 0 ∷ [])
     ∷ tickTo 2000500000 0 (Released 0) []
     ∷ tickTo 3000500000 0 (Unticked PlanDue) []
     -- debt up to its limit, of which a quiet plan forgives half and a busy one nothing; the donor falls silent
-    ∷ replicate 549 (ask 1 3 18 0 8192 OnDebt)
-    ++ (ask 1 3 18 0 8192 (Declined DebtFull)
+    ∷ replicate 549 (send 1 3 18 0 8192 OnDebt)
+    ++ (send 1 3 18 0 8192 (Declined DebtFull)
     ∷ plans Accepted
     ∷ tickTo 2000500001 0 (Released 0) []
     ∷ plans Accepted

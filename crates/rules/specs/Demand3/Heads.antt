@@ -20,6 +20,7 @@ use Rattle.rules.specs.Budget.{rowAt, queueAt, shareAt, popped, oldestCo
 use Rattle.rules.specs.Tick.{noTurn, growth, gained, repayment, repaid as repaying, turn, turnOf, releases, lentAfter, tick as ticking}
 use Rattle.rules.specs.Plan.{usageAll, isDonation, donated, restartedClock, closed, shared, plan as planning}
 use Rattle.rules.specs.Refusals.{firstOf, submitChecks, tickChecks, planChecks}
+use Rattle.rules.specs.Question.{question}
 use Rattle.rules.specs.Entries.{submitted, submittedBy, ticked, tickedBy, lentOf, lentBy, planned, plannedBy, setBy}
 use Rattle.rules.specs.Invariant.{Sound}
 use Rattle.rules.specs.Ledger.{Call, after, costWaiting, costOfFirst, idWaiting, idsOfFirst, waiting, owed, ifTaken, ifIssued, ifWaits, ifOnDebt, costOn, ifAccepted, releasedAt, repaidAt, accepted, issued, released, repaid, forgiven, generated, exact}
@@ -236,6 +237,7 @@ module _ {c : Controller} (sound : Sound c) (n : ℕ) (other : isLeaf (c .tree) 
   pub only-leaves-are-charged : (k : Call) → issued k c n + released k c n + repaid k c n ≡ 0
   unfolding released repaid issued
   only-leaves-are-charged (Call.submit b) = omega (arith, none-issued-there b)
+  only-leaves-are-charged (Call.ask b) = omega arith
   only-leaves-are-charged (Call.tick time lent) =
       omega (
         arith,
@@ -309,6 +311,7 @@ planning-keeps-the-tree c (Refused x) = refl
 pub call-passes : (k : Call) (c : Controller) → Passing (generated k c) (exact k c) (c .clock) (after k c .clock)
 unfolding generated exact submitted ticked tickedBy ticking planned
 call-passes (Call.submit b) c = nothing-passes _ _ (same-times (submitting-keeps-both b c (firstOf (submitChecks b c)) .clock))
+call-passes (Call.ask b) c = nothing-passes _ _ (same-times refl)
 call-passes (Call.tick time lent) c = go (firstOf (tickChecks time (length lent) c)) refl
   where
     go : (v : Verdict) → firstOf (tickChecks time (length lent) c) ≡ v
@@ -325,6 +328,7 @@ generated-is-the-growth-of-virtual-time k c = omega (arith, call-passes k c .vti
 -- the answer of the call is this refusal
 abbrev pub Refuses : Call → Controller → Refusal → Type 0
 Refuses (Call.submit b) c x = submitted b c .answer ≡ Declined x
+Refuses (Call.ask b) c x = question b c ≡ Declined x
 Refuses (Call.tick time lent) c x = ticked time lent c .answer ≡ Unticked x
 Refuses Call.plan c x = planned c .answer ≡ Refused x
 Refuses (Call.set s) c x = setBy s c .answer ≡ Refused x
@@ -338,6 +342,20 @@ pub record CountsNothing (k : Call) (c : Controller) : Type 0 where
   pub none-forgiven : (n : ℕ) → forgiven k c n ≡ 0
   pub none-generated : generated k c ≡ 0
   pub none-exact : exact k c ≡ 0
+
+-- a question counts nothing, whatever it is answered
+pub a-question-counts-nothing : (b : Bio) (c : Controller) → CountsNothing (Call.ask b) c
+unfolding accepted issued released repaid forgiven generated exact
+a-question-counts-nothing b c = record {
+  state-stays = refl;
+  none-accepted = λ n. refl;
+  none-issued = λ n. refl;
+  none-released = λ n. refl;
+  none-repaid = λ n. refl;
+  none-forgiven = λ n. refl;
+  none-generated = refl;
+  none-exact = refl;
+}
 
 pub a-refused-call-counts-nothing : (k : Call) (c : Controller) (x : Refusal) → Refuses k c x → CountsNothing k c
 unfolding accepted issued released repaid forgiven generated exact submitted submittedBy
@@ -353,6 +371,7 @@ a-refused-call-counts-nothing (Call.submit b) c x e =
       none-generated = refl;
       none-exact = refl;
     }
+a-refused-call-counts-nothing (Call.ask b) c x e = a-question-counts-nothing b c
 a-refused-call-counts-nothing (Call.tick time lent) c x e =
     let v : firstOf (tickChecks time (length lent) c) ≡ Refused x = tick-refuses-exactly-when time lent c x .0 e in
     record {

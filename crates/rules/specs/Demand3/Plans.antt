@@ -39,6 +39,7 @@ pub record Counted (c : Controller) (n : ℕ) : Type 0 where
 
 abbrev pub isPlan : Call → Bool
 isPlan (Call.submit b) = false
+isPlan (Call.ask b) = false
 isPlan (Call.tick time lent) = false
 isPlan Call.plan = true
 isPlan (Call.set x) = false
@@ -77,6 +78,7 @@ tick-counts {c} s time n w =
 call-counts : (k : Call) {c : Controller} → Sound c → isPlan k ≡ false → (n : ℕ) → Counted c n → Counted (after k c) n
 unfolding ticked tickedBy vrated vratedBy weighted weightedBy
 call-counts (Call.submit b) s e n w = submit-counts s b n w
+call-counts (Call.ask b) s e n w = w
 call-counts (Call.tick time lent) {c} s e n w = go (firstOf (tickChecks time (length lent) c))
   where
     go : (v : Verdict) → Counted (tickedBy v time c .state) n

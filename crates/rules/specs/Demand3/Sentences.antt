@@ -22,6 +22,7 @@ use Rattle.rules.specs.Demand3.Steps.{call-keeps, call-flow, call-books}
 use Rattle.rules.specs.Demand3.Heads.{generated-is-the-growth-of-virtual-time}
 use Rattle.rules.specs.Laws.Units.{ceil-enough}
 use Rattle.rules.specs.Laws.Starts.{start-gives, start-saves-nothing, start-owes-nothing, clock-keeps}
+use Rattle.rules.specs.declared.cost.Bio.{Bio}
 use Rattle.rules.specs.declared.cost.Rates.{Rates}
 use Rattle.rules.specs.declared.tree.Tree.{Tree}
 use Rattle.rules.specs.declared.budget.Controller.{Controller}
@@ -65,6 +66,33 @@ pub books-balance-between : (ks : List Call) {c : Controller} → Sound c → (n
     + sumOf (λ k s. repaid k s n) ks c + sumOf (λ k s. forgiven k s n) ks c
 books-balance-between [] {c} sound n = omega arith
 books-balance-between (k ∷ ks) {c} sound n = omega (arith, call-books k sound n, books-balance-between ks (call-keeps k sound) n)
+
+-- ---- request Six: questions leave no trace. The same calls without them reach the same state, and count the same in every head
+-- to which a question adds nothing, which is each of the ledger's (`a-question-counts-nothing` in Demand3/Heads)
+abbrev pub unasked : List Call → List Call
+unasked [] = []
+unasked (Call.submit b ∷ ks) = Call.submit b ∷ unasked ks
+unasked (Call.ask b ∷ ks) = unasked ks
+unasked (Call.tick time lent ∷ ks) = Call.tick time lent ∷ unasked ks
+unasked (Call.plan ∷ ks) = Call.plan ∷ unasked ks
+unasked (Call.set x ∷ ks) = Call.set x ∷ unasked ks
+
+pub questions-leave-no-trace : (ks : List Call) (c : Controller) → run ks c ≡ run (unasked ks) c
+questions-leave-no-trace [] c = refl
+questions-leave-no-trace (Call.submit b ∷ ks) c = questions-leave-no-trace ks (after (Call.submit b) c)
+questions-leave-no-trace (Call.ask b ∷ ks) c = questions-leave-no-trace ks c
+questions-leave-no-trace (Call.tick time lent ∷ ks) c = questions-leave-no-trace ks (after (Call.tick time lent) c)
+questions-leave-no-trace (Call.plan ∷ ks) c = questions-leave-no-trace ks (after Call.plan c)
+questions-leave-no-trace (Call.set x ∷ ks) c = questions-leave-no-trace ks (after (Call.set x) c)
+
+pub questions-add-nothing : (head : Call → Controller → ℕ) → ((b : Bio) (c : Controller) → head (Call.ask b) c ≡ 0)
+    → (ks : List Call) (c : Controller) → sumOf head ks c ≡ sumOf head (unasked ks) c
+questions-add-nothing head none [] c = refl
+questions-add-nothing head none (Call.submit b ∷ ks) c = omega (arith, questions-add-nothing head none ks (after (Call.submit b) c))
+questions-add-nothing head none (Call.ask b ∷ ks) c = omega (arith, none b c, questions-add-nothing head none ks c)
+questions-add-nothing head none (Call.tick time lent ∷ ks) c = omega (arith, questions-add-nothing head none ks (after (Call.tick time lent) c))
+questions-add-nothing head none (Call.plan ∷ ks) c = omega (arith, questions-add-nothing head none ks (after Call.plan c))
+questions-add-nothing head none (Call.set x ∷ ks) c = omega (arith, questions-add-nothing head none ks (after (Call.set x) c))
 
 -- ---- from a fresh start
 module _ (tree : Tree) (rates : Rates) (time : ℕ) (ks : List Call) where

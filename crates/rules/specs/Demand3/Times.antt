@@ -50,6 +50,7 @@ Steady v (k ∷ ks) c = (c .clock .vrate ≡ v) × Steady v ks (after k c)
 -- as where no call sets it: bios, ticks, plans and weights alone
 abbrev pub setsVrate : Call → Bool
 setsVrate (Call.submit b) = false
+setsVrate (Call.ask b) = false
 setsVrate (Call.tick time lent) = false
 setsVrate Call.plan = false
 setsVrate (Call.set (Vrate v)) = true
@@ -62,6 +63,7 @@ NoVrate (k ∷ ks) = (setsVrate k ≡ false) × NoVrate ks
 vrate-stays : (k : Call) (c : Controller) → setsVrate k ≡ false → after k c .clock .vrate ≡ c .clock .vrate
 unfolding submitted ticked tickedBy ticking advanced planned plannedBy
 vrate-stays (Call.submit b) c e = ap (λ (k : Clock). k .vrate) (submitting-keeps-both b c (firstOf (submitChecks b c)) .clock)
+vrate-stays (Call.ask b) c e = refl
 vrate-stays (Call.tick time lent) c e = go (firstOf (tickChecks time (length lent) c))
   where
     go : (v : Verdict) → tickedBy v time c .state .clock .vrate ≡ c .clock .vrate
@@ -89,6 +91,7 @@ ifTicked (Refused x) time before = before
 
 abbrev pub timeAfter : Call → Controller → ℕ
 timeAfter (Call.submit b) c = c .clock .time
+timeAfter (Call.ask b) c = c .clock .time
 timeAfter (Call.tick time lent) c = ifTicked (firstOf (tickChecks time (length lent) c)) time (c .clock .time)
 timeAfter Call.plan c = c .clock .time
 timeAfter (Call.set x) c = c .clock .time
@@ -96,6 +99,7 @@ timeAfter (Call.set x) c = c .clock .time
 pub the-time-is-the-last-accepted : (k : Call) (c : Controller) → after k c .clock .time ≡ timeAfter k c
 unfolding submitted ticked tickedBy ticking advanced planned
 the-time-is-the-last-accepted (Call.submit b) c = ap (λ (k : Clock). k .time) (submitting-keeps-both b c (firstOf (submitChecks b c)) .clock)
+the-time-is-the-last-accepted (Call.ask b) c = refl
 the-time-is-the-last-accepted (Call.tick time lent) c = go (firstOf (tickChecks time (length lent) c))
   where
     go : (v : Verdict) → tickedBy v time c .state .clock .time ≡ ifTicked v time (c .clock .time)

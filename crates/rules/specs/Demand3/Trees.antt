@@ -26,6 +26,7 @@ weightBy (Refused x) n w t = t
 
 abbrev pub treeAfter : Call → Tree → Tree
 treeAfter (Call.submit b) t = t
+treeAfter (Call.ask b) t = t
 treeAfter (Call.tick time lent) t = t
 treeAfter Call.plan t = t
 treeAfter (Call.set (Vrate v)) t = t
@@ -34,6 +35,7 @@ treeAfter (Call.set (Weight n w)) t = weightBy (firstOf (weightChecks n w t)) n 
 pub only-a-weight-moves-the-tree : (k : Call) (c : Controller) → after k c .tree ≡ treeAfter k (c .tree)
 unfolding submitted ticked tickedBy ticking planned vrated vratedBy weighted weightedBy reweighted rebased reshared
 only-a-weight-moves-the-tree (Call.submit b) c = submitting-keeps-both b c (firstOf (submitChecks b c)) .tree
+only-a-weight-moves-the-tree (Call.ask b) c = refl
 only-a-weight-moves-the-tree (Call.tick time lent) c = go (firstOf (tickChecks time (length lent) c))
   where
     go : (v : Verdict) → tickedBy v time c .state .tree ≡ c .tree
@@ -67,6 +69,7 @@ pub record SameNodes (t u : Tree) : Type 0 where
 
 a-call-keeps-the-nodes : (k : Call) (t : Tree) → SameNodes t (treeAfter k t)
 a-call-keeps-the-nodes (Call.submit b) t = record { count = refl; parents = refl }
+a-call-keeps-the-nodes (Call.ask b) t = record { count = refl; parents = refl }
 a-call-keeps-the-nodes (Call.tick time lent) t = record { count = refl; parents = refl }
 a-call-keeps-the-nodes Call.plan t = record { count = refl; parents = refl }
 a-call-keeps-the-nodes (Call.set (Vrate v)) t = record { count = refl; parents = refl }

@@ -8,7 +8,7 @@ use native.Mathlib.Omega.{arith}
 use borrow.Author.Tests.{leb-true, le-leb, ltb-false, le-ltb, not-true}
 use Rattle.rules.specs.Units.{relative}
 use Rattle.rules.specs.Cost.{isForced}
-use Rattle.rules.specs.Budget.{owes, waits, fits, answerTo, answerIn, wouldBe}
+use Rattle.rules.specs.Budget.{owes, waits, fits, lengthOnly, answerTo, answerIn, wouldBe}
 use Rattle.rules.specs.Laws.Bools.{never, true-not-false, exactly, exactly-both, exactly-not}
 use Rattle.rules.specs.declared.units.Abs.{Abs}
 use Rattle.rules.specs.declared.cost.Bio.{Bio}
@@ -18,6 +18,13 @@ use Rattle.rules.specs.declared.budget.Controller.{Controller}
 use Rattle.rules.specs.declared.refusals.Refusal.{Refusal}
 use Rattle.rules.specs.declared.refusals.Answer.{Answer}
 use Rattle.rules.specs.declared.refusals.Answer.the-variants.{Issued, Waits, OnDebt, Refused as Declined}
+
+-- ---- of the queue steps 2 and 3 look at how many wait
+pub answer-by-count : (forced : Bool) (cost : Abs) (share : ℕ) (row : Row) (q : Queue)
+    → answerTo forced cost share row q ≡ answerTo forced cost share row (lengthOnly (q .len))
+unfolding answerTo
+answer-by-count true cost share row q = refl
+answer-by-count false cost share row q = refl
 
 -- ---- the tests of a row and a queue, as facts
 pub owes-nothing : (r : Row) → (owes r ≡ false) ↔ (r .debt .0 ≡ 0)
@@ -100,7 +107,7 @@ module _ (cost : Abs) (share : ℕ) (r : Row) (q : Queue) where
   issued-fits true e = fits-its-budget cost share r .1 (forced-is-issued-exactly-when .0 e .fit)
 
   -- these steps refuse nothing
-  no-refusal : (forced : Bool) (x : Refusal) → answerTo forced cost share r q ≡ Declined x → ⊥
+  pub no-refusal : (forced : Bool) (x : Refusal) → answerTo forced cost share r q ≡ Declined x → ⊥
   unfolding answerTo
   no-refusal false x e = never-declined-if Waits x (λ i. never (cc)) (not (owes r) && not (waits q) && fits cost share r) e
   no-refusal true x e = never-declined-if OnDebt x (λ i. never (cc)) (not (owes r) && fits cost share r) e
