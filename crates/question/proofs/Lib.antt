@@ -1,0 +1,3 @@
+pub mod Handing
+pub mod Elem
+pub mod Shell
