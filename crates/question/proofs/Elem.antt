@@ -59,7 +59,7 @@ module _ (F : Field) (L : FLaws F) where
   abbrev pub ArrayIs : ℕ → List (F .Value) → Type 0
   ArrayIs n xs = Is (array-field F n .row) (map (F .into) xs) (arrayVal (us-of xs) ∷ [])
 
-  abbrev pub ItemIs : F .Value → Type 0
+  abbrev ItemIs : F .Value → Type 0
   ItemIs y = Is (F .row) (F .into y) (val-of y ∷ [])
 
   pub long : (n : ℕ) (xs : List (F .Value)) → ArrayIs n xs → length xs ≡ n
@@ -83,13 +83,17 @@ module _ {M : Type 1} (𝓤 : URA M) (H : Heap 𝓤) (A : Atoms 𝓤) (W : Given
       → ent 𝓤 (elems 𝓤 H q τ b o us) (sep 𝓤 (H .at q τ b (place (size τ) o i) (getD us i w)) (all 𝓤 (Row 𝓤 H q τ b o (place (size τ) o i) us i)))
   taken q τ [] i w b o l = absurd (not-suc-le-zero l)
   taken q τ (u ∷ us) zero w b o l =
-      qed W ((‵ (fat q τ b o u) ⊛ raw (elems 𝓤 H q τ b (o + size τ) us)) ∷ []) ∵ split ! $ frame ! $ each ! (Row 𝓤 H q τ b o o (u ∷ us) zero) (λ v. assume ! (‵ (fat q τ b o v)) $ frame ! $ done !)
+      qed W ((‵ (fat q τ b o u) ⊛ raw (elems 𝓤 H q τ b (o + size τ) us)) ∷ []) ∵ split ! $ frame ! $
+      each ! (Row 𝓤 H q τ b o o (u ∷ us) zero) (λ v. assume ! (‵ (fat q τ b o v)) $ frame ! $ done !)
   taken q τ (u ∷ us) (suc i) w b o l =
       qed W ((‵ (fat q τ b o u) ⊛ raw (elems 𝓤 H q τ b (o + size τ) us)) ∷ []) ∵ split ! $ move ! (1 ∷ []) $
-      use1 W (‵ (fat q τ b (place (size τ) (o + size τ) i) (getD us i w)) ⊛ raw (all 𝓤 (Row 𝓤 H q τ b (o + size τ) (place (size τ) (o + size τ) i) us i))) (taken q τ us i w b (o + size τ) (le-of-suc-le-suc l)) $ split ! $ frame ! $
+      use1 W (‵ (fat q τ b (place (size τ) (o + size τ) i) (getD us i w)) ⊛ raw (all 𝓤 (Row 𝓤 H q τ b (o + size τ) (place (size τ) (o + size τ) i) us i)))
+      (taken q τ us i w b (o + size τ) (le-of-suc-le-suc l)) $ split ! $ frame ! $
       each ! (Row 𝓤 H q τ b o (place (size τ) (o + size τ) i) (u ∷ us) (suc i)) (λ v. assume ! (‵ (fat q τ b (place (size τ) (o + size τ) i) v)) $ move ! (1 ∷ []) $
-      use1 W (raw (Row 𝓤 H q τ b (o + size τ) (place (size τ) (o + size τ) i) us i v)) (allE 𝓤 (Row 𝓤 H q τ b (o + size τ) (place (size τ) (o + size τ) i) us i) v) $ move ! (1 ∷ 0 ∷ []) $
-      use2 W (raw (elems 𝓤 H q τ b (o + size τ) (set us i v))) (apply∗ 𝓤 (H .at q τ b (place (size τ) (o + size τ) i) v) (elems 𝓤 H q τ b (o + size τ) (set us i v))) $ move ! (1 ∷ 0 ∷ []) $ frame ! $ done !)
+      use1 W (raw (Row 𝓤 H q τ b (o + size τ) (place (size τ) (o + size τ) i) us i v))
+      (allE 𝓤 (Row 𝓤 H q τ b (o + size τ) (place (size τ) (o + size τ) i) us i) v) $ move ! (1 ∷ 0 ∷ []) $
+      use2 W (raw (elems 𝓤 H q τ b (o + size τ) (set us i v))) (apply∗ 𝓤 (H .at q τ b (place (size τ) (o + size τ) i) v) (elems 𝓤 H q τ b (o + size τ) (set us i v))) $
+      move ! (1 ∷ 0 ∷ []) $ frame ! $ done !)
 
 module _ {M : Type 1} {𝓤 : URA M} {H : Heap 𝓤} {A : Atoms 𝓤} {K : Type 0} {W : Given 𝓤 H A} where
   at-place : {it : Item 𝓤} {q : Share} {τ : Ty} {n b o : ℕ} (us : List Val) {back : Val → Item 𝓤} (i : ℕ) (w : Val) → i < n → length us ≡ n
@@ -97,11 +101,15 @@ module _ {M : Type 1} {𝓤 : URA M} {H : Heap 𝓤} {A : Atoms 𝓤} {K : Type 
   at-place {it} {q} {τ} {n} {b} {o} us {back} i w l e p = record {
     out = qed W (it ∷ []) ∵ use1 W (‵ (fat q (tyArray τ n) b o (arrayVal us)) ⊛ raw (all 𝓤 Entry)) (p .out) $ split ! $
         use1 W (raw (elems 𝓤 H q τ b o us)) (W .laws .at-elems q τ n b o us) $
-        use1 W (‵ (fat q τ b (place (size τ) o i) (getD us i w)) ⊛ raw (all 𝓤 (Row 𝓤 H q τ b o (place (size τ) o i) us i))) (taken 𝓤 H A W q τ us i w b o (subst (λ (m : ℕ). i < m) (sym e) l)) $ split ! $ frame ! $
-        each ! (λ (u : Val). wand 𝓤 (H .at q τ b (place (size τ) o i) u) (mean 𝓤 H A (back (arrayVal (set us i u))))) (λ u. assume {P = mean 𝓤 H A (back (arrayVal (set us i u)))} ! (‵ (fat q τ b (place (size τ) o i) u)) $
+        use1 W (‵ (fat q τ b (place (size τ) o i) (getD us i w)) ⊛ raw (all 𝓤 (Row 𝓤 H q τ b o (place (size τ) o i) us i)))
+        (taken 𝓤 H A W q τ us i w b o (subst (λ (m : ℕ). i < m) (sym e) l)) $ split ! $ frame ! $
+        each ! (λ (u : Val). wand 𝓤 (H .at q τ b (place (size τ) o i) u) (mean 𝓤 H A (back (arrayVal (set us i u)))))
+        (λ u. assume {P = mean 𝓤 H A (back (arrayVal (set us i u)))} ! (‵ (fat q τ b (place (size τ) o i) u)) $
         move ! (1 ∷ []) $ use1 W (raw (Row 𝓤 H q τ b o (place (size τ) o i) us i u)) (allE 𝓤 (Row 𝓤 H q τ b o (place (size τ) o i) us i) u) $ move ! (1 ∷ 0 ∷ []) $
         use2 W (raw (elems 𝓤 H q τ b o (set us i u))) (apply∗ 𝓤 (H .at q τ b (place (size τ) o i) u) (elems 𝓤 H q τ b o (set us i u))) $
-        use1 W (‵ (fat q (tyArray τ n) b o (arrayVal (set us i u)))) (subst (λ (m : ℕ). ent 𝓤 (elems 𝓤 H q τ b o (set us i u)) (H .at q (tyArray τ m) b o (arrayVal (set us i u)))) (length-set us i u ∙ e) (W .laws .elems-at q τ b o (set us i u))) $
+        use1 W (‵ (fat q (tyArray τ n) b o (arrayVal (set us i u))))
+        (subst (λ (m : ℕ). ent 𝓤 (elems 𝓤 H q τ b o (set us i u)) (H .at q (tyArray τ m) b o (arrayVal (set us i u)))) (length-set us i u ∙ e)
+        (W .laws .elems-at q τ b o (set us i u))) $
         move ! (1 ∷ []) $ use1 W (raw (Entry (arrayVal (set us i u)))) (allE 𝓤 Entry (arrayVal (set us i u))) $ move ! (1 ∷ 0 ∷ []) $
         use2 W (back (arrayVal (set us i u))) (apply∗ 𝓤 (H .at q (tyArray τ n) b o (arrayVal (set us i u))) (mean 𝓤 H A (back (arrayVal (set us i u))))) $ done !);
     same = ap (λ (vs : List Val). back (arrayVal vs)) (set-getD us i w) ∙ p .same;
@@ -110,8 +118,10 @@ module _ {M : Type 1} {𝓤 : URA M} {H : Heap 𝓤} {A : Atoms 𝓤} {K : Type 
       Entry : Val → SProp 𝓤
       Entry v = wand 𝓤 (H .at q (tyArray τ n) b o v) (mean 𝓤 H A (back v))
 
-  pub item : K → {it : Item 𝓤} {q : Share} {τ : Ty} {b o : ℕ} {back : Val → Item 𝓤} (F : Field) (L : FLaws F) (n : ℕ) (xs : List (F .Value)) (i : ℕ) (d : F .Value) → i < n → length xs ≡ n
-      → Part K W it q (tyArray τ n) b o (arrayVal (us-of F L xs)) back → Part K W it q τ b (i * size τ + o) (val-of F L (getD xs i d)) (λ u. back (arrayVal (set (us-of F L xs) i u)))
+  pub item : K → {it : Item 𝓤} {q : Share} {τ : Ty} {b o : ℕ} {back : Val → Item 𝓤} (F : Field) (L : FLaws F)
+      (n : ℕ) (xs : List (F .Value)) (i : ℕ) (d : F .Value) → i < n → length xs ≡ n
+      → Part K W it q (tyArray τ n) b o (arrayVal (us-of F L xs)) back
+      → Part K W it q τ b (i * size τ + o) (val-of F L (getD xs i d)) (λ u. back (arrayVal (set (us-of F L xs) i u)))
   item t {it} {q} {τ} {b} {o} {back} F L n xs i d l e p =
       subst (λ (v : Val). Part K W it q τ b (i * size τ + o) v (λ u. back (arrayVal (set (us-of F L xs) i u))))
       (List·getD-map (L .val) (map (F .into) xs) i (F .into d) ∙ ap (L .val) (List·getD-map (F .into) xs i d))

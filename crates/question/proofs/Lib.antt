@@ -1,3 +1,4 @@
 pub mod Handing
 pub mod Elem
 pub mod Shell
+pub mod Asking

@@ -311,7 +311,15 @@ pub fn decide(bio: Bio, node: usize, view: View) -> Decision
 {
     let model = view.model;
     let row = view.row;
-    let own = own_of(node, view.leaves, view.active, model, view.share, row, view.waiting);
+    let own = own_of(
+        node,
+        view.leaves,
+        view.active,
+        model,
+        view.share,
+        row,
+        view.waiting,
+    );
     let ruled = rule(bio, own);
     let answer = ruled.answer;
     let cost = ruled.cost;

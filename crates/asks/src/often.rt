@@ -1,0 +1,105 @@
+// Questions of a state that is lent, and for the benchmark nothing but questions and nothing but submissions.
+ghost use mathlib.Core.Path.{_≡_};
+ghost use Rattle.rules.specs.Question.{question};
+ghost use Rattle.rules.specs.Invariant.{Sound};
+ghost use Rattle.asks.specs.Often.{stepOf, variedBy, askedOften};
+use crate::calls;
+use crate::say;
+use crate::states;
+use rules::budget::Controller;
+use rules::cost::Bio;
+use rules::refusals::Answer;
+
+// Asks of a state that is lent for the question.
+pub(crate) fn told(c: Controller, bio: Bio) -> Answer
+    requires { ⌜ Sound c ⌝ }
+    ensures { λ r. ⌜ r ≡ question bio c ⌝ }
+{
+    question::ask(&c, bio)
+}
+
+fn step_of(answer: Answer) -> u64
+    ensures { λ r. ⌜ r ≡ stepOf answer ⌝ }
+{
+    match answer {
+        Answer::Issued => 8,
+        Answer::Waits => 16,
+        Answer::OnDebt => 32,
+        Answer::Refused(_) => 64,
+    }
+}
+
+// Each bio hangs on the answer before, so that no two calls are one.
+fn varied(bio: Bio, answer: Answer) -> Bio
+    ensures { λ r. ⌜ r ≡ variedBy bio answer ⌝ }
+{
+    let mut next = bio;
+    next.sector = bio.sector ^ step_of(answer);
+    next
+}
+
+// Questions one after the other, of one state.
+fn asked_often(c: Controller, bio: Bio, times: u64) -> Bio
+    requires { ⌜ Sound c ⌝ }
+    ensures { λ r. ⌜ r ≡ askedOften times c bio ⌝ }
+{
+    let mut next = bio;
+    let mut left = times;
+    while 0 < left {
+        let answer = question::ask(&c, next);
+        next = varied(next, answer);
+        left = left - 1;
+    }
+    next
+}
+
+// Submissions one after the other, each to the state that the one before left.
+fn sent_often(c: Controller, bio: Bio, times: u64) -> Bio
+    requires { ⌜ Sound c ⌝ }
+{
+    let mut state = c;
+    let mut next = bio;
+    let mut left = times;
+    while 0 < left {
+        let done = submit::submit(state, next);
+        let answer = done.answer;
+        let after = done.state;
+        state = after;
+        next = varied(next, answer);
+        left = left - 1;
+    }
+    next
+}
+
+const QUESTIONS: u64 = 20000000;
+
+const SUBMISSIONS: u64 = 1000000;
+
+// A forced read of a page.
+fn read() -> Bio {
+    Bio {
+        node: 4,
+        flags: 2,
+        id: 7,
+        sector: 0,
+        bytes: 4096,
+    }
+}
+
+// A state in which leaf 4 has saved: it has waited for a second, beside nobody.
+fn saved() -> Controller
+    ensures { λ r. ⌜ Sound r ⌝ }
+{
+    let c = calls::submit(states::fresh(), read());
+    calls::tick(c, 1000000000)
+}
+
+pub(crate) fn questions() {
+    let last = asked_often(saved(), read(), QUESTIONS);
+    say::made(b"questions: ", QUESTIONS, last.sector);
+}
+
+pub(crate) fn submissions() {
+    let last = sent_often(saved(), read(), SUBMISSIONS);
+    say::made(b"submissions: ", SUBMISSIONS, last.sector);
+}
