@@ -25,6 +25,7 @@ const TRACES: &[(Style, u64, u64)] = &[
     (Style::Trees, 700, 40),
     (Style::Short, 900, 40),
     (Style::Shares, 60, 300),
+    (Style::Asks, 60, 800),
 ];
 
 /// A generated trace of the comparison.
