@@ -5,7 +5,7 @@ use std::io::{self, Write};
 
 use crate::generator::damage::{damage, noise};
 use crate::generator::faults::{bad_setup, bad_tree};
-use crate::generator::moves::asks::{ask_at_debt_limit, ASK_MOVES};
+use crate::generator::moves::asks::{ask_early, ASK_MOVES};
 use crate::generator::moves::clock::CLOCK_MOVES;
 use crate::generator::moves::debt::climb_to_debt_limit;
 use crate::generator::moves::flush::FLUSH_MOVES;
@@ -92,8 +92,8 @@ fn generate_whole(seed: u64, records: u64, style: Style, out: &mut impl Write) -
     if climb {
         climb_to_debt_limit(&mut generator);
     }
-    if climb && style == Style::Asks {
-        ask_at_debt_limit(&mut generator);
+    if style == Style::Asks && generator.runs() {
+        ask_early(&mut generator);
     }
     while generator.runs() && generator.left > 0 {
         step(&mut generator, style);

@@ -7,4 +7,5 @@ pub mod events;
 mod flushes;
 pub mod ledger;
 pub mod observe;
+mod questions;
 mod shares;

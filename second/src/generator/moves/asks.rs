@@ -311,10 +311,23 @@ fn fall_asleep(g: &mut Generator) {
     }
 }
 
+/// What a trace begins with: questions at the debt limit, if a debt has climbed
+/// there, and then of leaves that are still to have their first bio.
+pub fn ask_early(g: &mut Generator) {
+    ask_at_debt_limit(g);
+    if let Some(number) = g.pick_inactive() {
+        let dear = too_dear(g, number, WRITE);
+        g.submit(dear);
+    }
+    for _ in 0..2 {
+        ask_first(g);
+    }
+}
+
 /// A debt near its limit: bios with which it comes to one above it, which an
 /// unforced one, a bad one and one too dear do not care about, and then to
 /// exactly the limit.
-pub fn ask_at_debt_limit(g: &mut Generator) {
+fn ask_at_debt_limit(g: &mut Generator) {
     for _ in 0..3 {
         let near = |debt: Absolute| debt.0 + MAX_COST.0 > MAX_DEBT.0;
         let number = match g.pick_active(|leaf| near(leaf.debt)) {
