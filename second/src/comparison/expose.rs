@@ -16,12 +16,7 @@ use crate::text::assemble::assemble_whole;
 
 /// Mutants that only stored cases tell apart: what it takes is too rare for
 /// generated traces.
-const BY_CASES_ALONE: [Mutant; 4] = [
-    Mutant::CostLimitOneMore,
-    Mutant::ThinAtNode,
-    Mutant::DebtLimitOneMore,
-    Mutant::RatesBeforePhase,
-];
+const BY_CASES_ALONE: [Mutant; 2] = [Mutant::ThinAtNode, Mutant::RatesBeforePhase];
 
 /// Tries all wrong programs. The answer is whether each was noticed.
 pub fn run(first_seed: u64, folders: &[String], tally: Tally) -> io::Result<bool> {
