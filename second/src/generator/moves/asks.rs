@@ -5,13 +5,13 @@
 use crate::engine::controller::MAX_DEBT;
 use crate::engine::cost::{Bio, FORCED, MAX_BYTES, MAX_COST, MAX_SECTOR, NEAR_SECTORS, WRITE};
 use crate::engine::leaf::{relative_cost, IDLE_CAP, QUEUE_ROOM};
-use crate::engine::numbers::{is_member, members, Absolute, Relative};
+use crate::engine::numbers::{is_member, Absolute, Relative};
 use crate::engine::rules::Rules;
 use crate::engine::tree::MAX_NODES;
 use crate::generator::moves::flush::settle;
+use crate::generator::moves::usual::fall_silent;
 use crate::generator::moves::weight::stand_donation;
 use crate::generator::state::{Generator, Move};
-use crate::trace::record::Record;
 
 /// The moves of a step of `asks`.
 pub const ASK_MOVES: &[(u64, Move)] = &[
@@ -27,7 +27,7 @@ pub const ASK_MOVES: &[(u64, Move)] = &[
     (5, ask_of_donor),
     (4, ask_of_taker),
     (4, ask_at_cost_limit),
-    (3, fall_asleep),
+    (3, fall_silent),
 ];
 
 fn any_forced(g: &mut Generator) -> u8 {
@@ -99,7 +99,7 @@ fn ask_no_leaf(g: &mut Generator) {
 /// A leaf that sleeps: what is refused there, and then the bio that wakes it.
 fn ask_sleeper(g: &mut Generator) {
     let number = match g.pick_inactive() {
-        None => return fall_asleep(g),
+        None => return fall_silent(g),
         Some(number) => number,
     };
     let flags = any_forced(g);
@@ -181,11 +181,7 @@ fn ask_of_place(g: &mut Generator) {
 /// The first bio of a leaf that only flushed, near sector 0, at a flush's place
 /// or anywhere, at a budget that decides whether it may be sequential.
 fn ask_first(g: &mut Generator) {
-    let controller = g.controller();
-    let fresh = members(controller.tree.leaves())
-        .filter(|&number| controller.leaves[number].end.is_none())
-        .fold(0, |set, number| set | 1 << number);
-    let number = match g.pick_of(fresh) {
+    let number = match g.pick_fresh() {
         None => return ask_of_place(g),
         Some(number) => number,
     };
@@ -229,15 +225,10 @@ fn ask_at_queue(g: &mut Generator) {
 
 /// A waiter, then an unforced and a forced bio at a budget for one of them.
 fn ask_past_waiters(g: &mut Generator) {
-    g.make_room();
-    let number = match g.pick_active(|leaf| !leaf.owes()) {
+    let number = match g.stand_waiter() {
         None => return ask_sleeper(g),
         Some(number) => number,
     };
-    if g.leaf(number).queue.is_empty() {
-        let dear = g.dear_bio(number, WRITE);
-        g.submit(dear);
-    }
     let unforced = g.cheap_bio(number, 0);
     submit_at_budget(g, unforced);
     let forced = g.cheap_bio(number, FORCED);
@@ -299,15 +290,6 @@ fn ask_at_cost_limit(g: &mut Generator) {
         let above = too_dear(g, number, flags | write);
         let bio = g.random.pick(&[dear, above]);
         g.submit(bio);
-    }
-}
-
-/// Two plans with time but no bio between, so that leaves go to sleep.
-fn fall_asleep(g: &mut Generator) {
-    for _ in 0..2 {
-        let elapsed = g.random.between(1, 10_000_000);
-        g.tick(elapsed);
-        g.put(Record::Plan);
     }
 }
 
