@@ -14,9 +14,9 @@ use crate::observation::census::{count_trace, Census};
 
 /// Fewer traces, fewer records or a census that asks for less are no
 /// comparison.
-const LEAST_TRACES: u64 = 3_275;
+const LEAST_TRACES: u64 = 3_345;
 const LEAST_RECORDS: u64 = 1_000_000;
-const LEAST_ASKED: u64 = 310;
+const LEAST_ASKED: u64 = 348;
 
 /// Compares and counts. The answer is whether nothing failed.
 pub fn run(ours: &str, first_seed: u64, folders: &[String], tally: Tally) -> io::Result<bool> {
