@@ -205,12 +205,34 @@ fn replay_from(file: Option<&str>, rules: Rules) -> Done {
 /// Prints what is asked of a trace's bios; the answer is whether each bio was
 /// then answered so.
 fn ask_from(file: Option<&str>, rules: Rules) -> Done {
-    match asks(input(file)?, &mut output(), rules).map_err(said)? {
+    let name = file.unwrap_or("standard input");
+    let trace = Named {
+        name,
+        input: input(file).map_err(|reason| format!("{}; {}", reason, NAME_ANOTHER))?,
+    };
+    match asks(trace, &mut output(), rules).map_err(said)? {
         None => Ok(true),
         Some(unlike) => {
-            eprintln!("{}: {}", file.unwrap_or("standard input"), unlike);
+            eprintln!("{}: {}", name, unlike);
             Ok(false)
         }
+    }
+}
+
+const NAME_ANOTHER: &str = "name a trace that can be read";
+
+/// An input whose faults name it, and not the output.
+struct Named<'a, R> {
+    name: &'a str,
+    input: R,
+}
+
+impl<R: Read> Read for Named<'_, R> {
+    fn read(&mut self, buffer: &mut [u8]) -> io::Result<usize> {
+        self.input.read(buffer).map_err(|fault| {
+            let said = format!("{}: {}; {}", self.name, fault, NAME_ANOTHER);
+            io::Error::new(fault.kind(), said)
+        })
     }
 }
 
