@@ -31,8 +31,9 @@ impl fmt::Display for Unlike {
 
 /// Replays a trace and prints what is asked of each bio that reaches a
 /// submission, as a replay prints it. It ends at the first bio that is then
-/// answered otherwise, and answers it.
-pub fn asks(input: impl Read, out: &mut impl Write, rules: Rules) -> io::Result<Option<Unlike>> {
+/// answered otherwise, and answers it. Any output is taken by one way of printing,
+/// so that a replay, whose time counts, keeps its own inlined.
+pub fn asks(input: impl Read, mut out: &mut dyn Write, rules: Rules) -> io::Result<Option<Unlike>> {
     let mut stream = Stream::new(input);
     let mut replay = Replay::new(rules);
     let (mut index, mut place) = (0, 0);
@@ -41,7 +42,7 @@ pub fn asks(input: impl Read, out: &mut impl Write, rules: Rules) -> io::Result<
         let asked = question(&replay, &record);
         let given = replay.take(Ok(record));
         if let Some(asked) = asked {
-            replay.print(asked, out)?;
+            replay.print(asked, &mut out)?;
             if asked != given {
                 out.flush()?;
                 return Ok(Some(Unlike {
