@@ -7,7 +7,7 @@ use std::time::Duration;
 
 use crate::comparison::pair::{on_all_cores, Pair};
 use crate::comparison::tally::Tally;
-use crate::comparison::watch::{Feed, Program, Watch};
+use crate::comparison::watch::{Feed, Program, Ran, Watch};
 use crate::engine::rules::Rules;
 use crate::generator::damage::{repeat_behind_setup, scatter};
 use crate::generator::generate::generate;
@@ -193,15 +193,7 @@ pub fn run(ours: &str, seed: u64, mut tally: Tally) -> io::Result<bool> {
             None => tally.pass(),
             Some(failure) => failure.count(&title, &name, &trace, &mut tally)?,
         }
-        match asked.fault {
-            None => tally.pass(),
-            Some(fault) => tally.fail_and_keep(
-                &format!("{}\nthe second program, asked, {}", title, fault),
-                &name,
-                &[("trace", &trace), ("asked", &asked.lines)],
-            )?,
-        }
-        Ok(())
+        count_asked(&asked, &title, &name, &trace, &mut tally)
     })?;
     let tally = tally.into_inner().unwrap();
     tally.clear_progress();
@@ -214,6 +206,25 @@ pub fn run(ours: &str, seed: u64, mut tally: Tally) -> io::Result<bool> {
         small.len()
     );
     Ok(tally.close())
+}
+
+/// Counts how this program fared on a trace where it asks.
+fn count_asked(
+    asked: &Ran,
+    title: &str,
+    name: &str,
+    trace: &[u8],
+    tally: &mut Tally,
+) -> io::Result<()> {
+    match &asked.fault {
+        None => tally.pass(),
+        Some(fault) => tally.fail_and_keep(
+            &format!("{}\nthe second program, asked, {}", title, fault),
+            name,
+            &[("trace", trace), ("asked", &asked.lines)],
+        )?,
+    }
+    Ok(())
 }
 
 /// The ways to hand a trace over take turns; small pieces take long, so they

@@ -90,29 +90,33 @@ pub fn budgets(checks: &mut Checks) -> Result<(), Refusal> {
     Ok(())
 }
 
-/// Shares, places and sizes: each with the relative cost, at which the bio is
-/// issued, and one below which it is not.
+/// A share, the last end, a bio's flags, sector and bytes, and what it costs
+/// relative to that share.
+type Price = (u64, Option<u64>, u8, u64, u32, u64);
+
+const PRICES: &[Price] = &[
+    (WHOLE, None, 0, 0, 4_096, 100_000),
+    (357_913_941, None, 0, 0, 4_096, 300_001),
+    (402_653_185, None, 0, 0, 4_096, 266_667),
+    (1_024, None, 0, 0, 4_096, 104_857_600_000),
+    (QUARTER.share, None, 0, 0, 512, 400_000),
+    (QUARTER.share, None, 0, 0, 8_192, 440_000),
+    (QUARTER.share, Some(0), 0, 0, 4_096, 80_000),
+    (QUARTER.share, Some(32_768), 0, 0, 4_096, 80_000),
+    (QUARTER.share, Some(32_769), 0, 0, 4_096, 400_000),
+    (QUARTER.share, Some(8), 0, 32_776, 65_536, 680_000),
+    (QUARTER.share, Some(8), 0, 32_777, 4_096, 400_000),
+    (QUARTER.share, None, WRITE, 0, 4_096, 800_000),
+    (QUARTER.share, Some(0), WRITE, 0, 4_096, 160_000),
+    (QUARTER.share, None, WRITE, 0, 0, 80_000),
+    (QUARTER.share, Some(0), WRITE, 1 << 48, 0, 80_000),
+];
+
+/// Shares, places and sizes: each at the relative cost, where the bio is issued,
+/// and one below it, where it is not.
 pub fn prices(checks: &mut Checks) -> Result<(), Refusal> {
     let model = Model::new(&BENCH, Rules::TRUE)?;
-    let (quarter, whole) = (QUARTER.share, WHOLE);
-    let write = WRITE;
-    for (share, end, flags, sector, bytes, relative) in [
-        (whole, None, 0, 0, 4_096, 100_000),
-        (357_913_941, None, 0, 0, 4_096, 300_001),
-        (402_653_185, None, 0, 0, 4_096, 266_667),
-        (1_024, None, 0, 0, 4_096, 104_857_600_000),
-        (quarter, None, 0, 0, 512, 400_000),
-        (quarter, None, 0, 0, 8_192, 440_000),
-        (quarter, Some(0), 0, 0, 4_096, 80_000),
-        (quarter, Some(32_768), 0, 0, 4_096, 80_000),
-        (quarter, Some(32_769), 0, 0, 4_096, 400_000),
-        (quarter, Some(8), 0, 32_776, 65_536, 680_000),
-        (quarter, Some(8), 0, 32_777, 4_096, 400_000),
-        (quarter, None, write, 0, 4_096, 800_000),
-        (quarter, Some(0), write, 0, 4_096, 160_000),
-        (quarter, None, write, 0, 0, 80_000),
-        (quarter, Some(0), write, 1 << 48, 0, 80_000),
-    ] {
+    for &(share, end, flags, sector, bytes, relative) in PRICES {
         let bio = Bio {
             flags,
             sector,
@@ -149,64 +153,66 @@ const DEAR: Rates = Rates {
     wrandiops: 1_000_000_000,
 };
 
-/// Refusals 4 to 6 in their order, of a leaf that is awake, of one that sleeps
-/// and of a node that is no leaf.
+/// A leaf alone on the device with a budget for the dearest bio.
+const AWAKE: Own = Own {
+    share: WHOLE,
+    budget: Relative(1 << 31),
+    ..QUARTER
+};
+
+/// The same with a full queue and as much debt as there may be.
+const FULL: Own = Own {
+    waiting: 8,
+    debt: Absolute(1 << 40),
+    ..AWAKE
+};
+
+/// A leaf that sleeps, its last bio near.
+const ASLEEP: Own = Own {
+    active: false,
+    share: 0,
+    end: Some(0),
+    ..QUARTER
+};
+
+/// One that sleeps and is still to have its first bio.
+const FRESH: Own = Own {
+    end: None,
+    ..ASLEEP
+};
+
+const RANGE: Due = Err(Refusal::BioRange);
+const COST: Due = Err(Refusal::CostLimit);
+const QUEUE: Due = Err(Refusal::QueueFull);
+const DEBT: Due = Err(Refusal::DebtLimit);
+
+/// What these four are answered about a good bio, and if it is forced.
+const GOOD: [[Due; 4]; 2] = [
+    [ISSUED, QUEUE, WAITS, WAITS],
+    [ISSUED, DEBT, ON_DEBT, ON_DEBT],
+];
+
+/// About one that is too dear unless it is sequential.
+const DEAR_IF_RANDOM: [[Due; 4]; 2] = [[COST, COST, WAITS, COST], [COST, COST, ON_DEBT, COST]];
+
+/// Refusals in their order: of two leaves that are awake, of two that sleep and
+/// of a node that is no leaf.
 pub fn refusals(checks: &mut Checks) -> Result<(), Refusal> {
     let model = Model::new(&DEAR, Rules::TRUE)?;
-    let awake = Own {
-        share: WHOLE,
-        budget: Relative(1 << 31),
-        ..QUARTER
-    };
-    let full = Own {
-        waiting: 8,
-        debt: Absolute(1 << 40),
-        ..awake
-    };
-    let asleep = Own {
-        leaf: true,
-        end: Some(0),
-        ..Own::default()
-    };
-    let fresh = Own {
-        end: None,
-        ..asleep
-    };
-    let (range, dear) = (Err(Refusal::BioRange), Err(Refusal::CostLimit));
-    let (queue, owed) = (Err(Refusal::QueueFull), Err(Refusal::DebtLimit));
-    // The answers of the four leaves to a bio and, where it has no bad flags, to
-    // the same one forced.
-    for (flags, sector, bytes, unforced, of_forced) in [
-        (
-            0,
-            0,
-            921_600,
-            [ISSUED, queue, WAITS, WAITS],
-            [ISSUED, owed, ON_DEBT, ON_DEBT],
-        ),
-        (
-            0,
-            0,
-            925_696,
-            [dear, dear, WAITS, dear],
-            [dear, dear, ON_DEBT, dear],
-        ),
-        (0, 40_000, 925_696, [dear; 4], [dear; 4]),
-        (0, 0, 962_560, [dear; 4], [dear; 4]),
-        (
-            1,
-            0,
-            0,
-            [ISSUED, queue, WAITS, WAITS],
-            [ISSUED, owed, ON_DEBT, ON_DEBT],
-        ),
-        (0, 0, 0, [range; 4], [range; 4]),
-        (0, 0, 511, [range; 4], [range; 4]),
-        (0, 0, 1_049_088, [range; 4], [range; 4]),
-        (0, (1 << 48) + 1, 962_560, [range; 4], [range; 4]),
-        (1, (1 << 48) + 1, 0, [range; 4], [range; 4]),
-        (4, 0, 962_560, [range; 4], [range; 4]),
-        (129, 0, 0, [range; 4], [range; 4]),
+    let beyond = (1 << 48) + 1;
+    for (flags, sector, bytes, due) in [
+        (0, 0, 921_600, GOOD),
+        (1, 0, 0, GOOD),
+        (0, 0, 925_696, DEAR_IF_RANDOM),
+        (0, 40_000, 925_696, [[COST; 4]; 2]),
+        (0, 0, 962_560, [[COST; 4]; 2]),
+        (0, 0, 0, [[RANGE; 4]; 2]),
+        (0, 0, 511, [[RANGE; 4]; 2]),
+        (0, 0, 1_049_088, [[RANGE; 4]; 2]),
+        (0, beyond, 962_560, [[RANGE; 4]; 2]),
+        (1, beyond, 0, [[RANGE; 4]; 2]),
+        (4, 0, 962_560, [[RANGE; 4]; 2]),
+        (129, 0, 0, [[RANGE; 4]; 2]),
     ] {
         let bio = Bio {
             flags,
@@ -215,12 +221,12 @@ pub fn refusals(checks: &mut Checks) -> Result<(), Refusal> {
             ..READ
         };
         let name = format!("asked to refuse: {} {} {}", flags, sector, bytes);
-        let of = |own: &Own, bio: Bio| ask(own, &model, &bio);
-        let leaves = [awake, full, asleep, fresh];
-        checks.equal(&name, leaves.map(|own| of(&own, bio)), unforced);
-        checks.equal(&name, leaves.map(|own| of(&own, forced(bio))), of_forced);
-        let no_leaf = [bio, forced(bio)].map(|bio| of(&Own::default(), bio));
-        checks.equal(&name, no_leaf, [Err(Refusal::NoLeaf); 2]);
+        for (bio, due) in [bio, forced(bio)].iter().zip(due) {
+            let answers = [AWAKE, FULL, ASLEEP, FRESH].map(|own| ask(&own, &model, bio));
+            checks.equal(&name, answers, due);
+            let no_leaf = ask(&Own::default(), &model, bio);
+            checks.equal(&name, no_leaf, Err(Refusal::NoLeaf));
+        }
     }
     Ok(())
 }
