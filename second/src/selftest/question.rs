@@ -142,8 +142,8 @@ pub fn prices(checks: &mut Checks) -> Result<(), Refusal> {
     Ok(())
 }
 
-/// Rates at which 225 pages read cost exactly 2^31, and 226 do unless they are
-/// sequential.
+/// Rates at which 225 pages read cost exactly 2^31, and 226 more than that unless
+/// they are sequential.
 const DEAR: Rates = Rates {
     rbps: 448_113,
     rseqiops: 1_000,
