@@ -24,12 +24,14 @@ use generator::generate::generate;
 use generator::growth::{growth, Kind};
 use generator::shape::Shape;
 use generator::style::Style;
+use observation::asks::asks;
 use observation::census::Census;
 use text::tool;
 use trace::replay::replay;
 
 const USAGE: &str = "usage: second COMMAND
   replay [FILE]                 replay a trace
+  asks [FILE]                   ask before each bio of a trace what it would be answered
   text [FILE]                   list a trace as text
   bytes [FILE]                  make a trace from text
   gen SEED [RECORDS] [STYLE]    generate a trace
@@ -39,6 +41,7 @@ const USAGE: &str = "usage: second COMMAND
   compare OURS THEIRS TRACE     compare two outputs of a trace
   mutants                       list the mutants
   mutant K replay [FILE]        replay a trace by changed rules
+  mutant K asks [FILE]          ask by changed rules
   selftest                      test this program
   against OURS [OPTION...]      compare with another program on many traces
   cases OURS [OPTION...]        try both programs on stored cases
@@ -76,6 +79,10 @@ fn run(words: &[&str]) -> Done {
     match words {
         ["replay"] => replay_from(None, Rules::TRUE),
         ["replay", file] => replay_from(Some(*file), Rules::TRUE),
+        ["asks"] => ask_from(None, Rules::TRUE),
+        ["asks", file] => ask_from(Some(*file), Rules::TRUE),
+        ["mutant", number, "asks"] => ask_from(None, mutant_rules(number)?),
+        ["mutant", number, "asks", file] => ask_from(Some(*file), mutant_rules(number)?),
         ["mutant", number, "replay"] => replay_from(None, mutant_rules(number)?),
         ["mutant", number, "replay", file] => replay_from(Some(*file), mutant_rules(number)?),
         ["mutants"] => list_mutants().map_err(said),
@@ -193,6 +200,40 @@ fn output() -> BufWriter<io::StdoutLock<'static>> {
 fn replay_from(file: Option<&str>, rules: Rules) -> Done {
     replay(input(file)?, &mut output(), rules).map_err(said)?;
     Ok(true)
+}
+
+/// Prints what is asked of a trace's bios; the answer is whether each bio was
+/// then answered so.
+fn ask_from(file: Option<&str>, rules: Rules) -> Done {
+    let name = file.unwrap_or("standard input");
+    let trace = Named {
+        name,
+        input: input(file).map_err(|reason| format!("{}; {}", reason, NAME_ANOTHER))?,
+    };
+    match asks(trace, &mut output(), rules).map_err(said)? {
+        None => Ok(true),
+        Some(unlike) => {
+            eprintln!("{}: {}", name, unlike);
+            Ok(false)
+        }
+    }
+}
+
+const NAME_ANOTHER: &str = "name a trace that can be read";
+
+/// An input whose faults name it, and not the output.
+struct Named<'a, R> {
+    name: &'a str,
+    input: R,
+}
+
+impl<R: Read> Read for Named<'_, R> {
+    fn read(&mut self, buffer: &mut [u8]) -> io::Result<usize> {
+        self.input.read(buffer).map_err(|fault| {
+            let said = format!("{}: {}; {}", self.name, fault, NAME_ANOTHER);
+            io::Error::new(fault.kind(), said)
+        })
+    }
 }
 
 fn mutant_rules(word: &str) -> Result<Rules, String> {

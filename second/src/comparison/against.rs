@@ -1,11 +1,12 @@
 //! The comparison: generated traces and stored cases, replayed by another
-//! program and by this one.
+//! program and by this one, which also asks before each bio.
 
 use std::io;
 use std::sync::Mutex;
 
 use crate::comparison::cases;
 use crate::comparison::pair::{on_all_cores, Pair};
+use crate::comparison::questions;
 use crate::comparison::samples::samples;
 use crate::comparison::tally::Tally;
 use crate::comparison::watch::{Feed, PATIENCE};
@@ -13,9 +14,9 @@ use crate::observation::census::{count_trace, Census};
 
 /// Fewer traces, fewer records or a census that asks for less are no
 /// comparison.
-const LEAST_TRACES: u64 = 3_275;
+const LEAST_TRACES: u64 = 3_345;
 const LEAST_RECORDS: u64 = 1_000_000;
-const LEAST_ASKED: u64 = 310;
+const LEAST_ASKED: u64 = 348;
 
 /// Compares and counts. The answer is whether nothing failed.
 pub fn run(ours: &str, first_seed: u64, folders: &[String], tally: Tally) -> io::Result<bool> {
@@ -25,19 +26,18 @@ pub fn run(ours: &str, first_seed: u64, folders: &[String], tally: Tally) -> io:
     let stored = cases::check(&pair, folders, &tally, &census)?;
     let samples = samples(first_seed);
     on_all_cores(samples.len(), PATIENCE, |watch, number| {
-        let trace = samples[number].trace()?;
+        let sample = samples[number];
+        let trace = sample.trace()?;
         // Both ways to hand a trace over take turns.
         let feed = [Feed::Named, Feed::Input][number % 2];
         let failure = pair.run(watch, &trace, feed)?;
         count_trace(&trace, &census)?;
+        questions::check(&sample.title(), &sample.name(), &trace, &tally)?;
         let mut tally = tally.lock().unwrap();
         tally.show_progress(number, samples.len());
         match failure {
             None => tally.pass(),
-            Some(failure) => {
-                let sample = samples[number];
-                failure.count(&sample.title(), &sample.name(), &trace, &mut tally)?
-            }
+            Some(failure) => failure.count(&sample.title(), &sample.name(), &trace, &mut tally)?,
         }
         Ok(())
     })?;

@@ -6,6 +6,7 @@ use std::path::{Path, PathBuf};
 use std::sync::Mutex;
 
 use crate::comparison::pair::{difference, on_all_cores, Pair};
+use crate::comparison::questions;
 use crate::comparison::tally::Tally;
 use crate::comparison::watch::{Feed, Watch, PATIENCE};
 use crate::observation::census::{count_trace, Census};
@@ -44,7 +45,8 @@ pub fn run(ours: &str, folders: &[String], tally: Tally) -> io::Result<bool> {
     Ok(tally.close())
 }
 
-/// Replays each case with both programs and answers how many there are.
+/// Replays each case with both programs, asks before each of its bios, and
+/// answers how many cases there are.
 pub fn check(
     pair: &Pair,
     folders: &[String],
@@ -67,6 +69,8 @@ pub fn check(
             Err(reason) => tally.lock().unwrap().fail(&reason),
             Ok(case) => {
                 check_case(pair, &case, watch, tally)?;
+                let title = format!("case {}", case.name);
+                questions::check(&title, &title, &case.trace, tally)?;
                 count_trace(&case.trace, census)?;
             }
         }

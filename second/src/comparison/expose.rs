@@ -16,12 +16,7 @@ use crate::text::assemble::assemble_whole;
 
 /// Mutants that only stored cases tell apart: what it takes is too rare for
 /// generated traces.
-const BY_CASES_ALONE: [Mutant; 4] = [
-    Mutant::CostLimitOneMore,
-    Mutant::ThinAtNode,
-    Mutant::DebtLimitOneMore,
-    Mutant::RatesBeforePhase,
-];
+const BY_CASES_ALONE: [Mutant; 2] = [Mutant::ThinAtNode, Mutant::RatesBeforePhase];
 
 /// Tries all wrong programs. The answer is whether each was noticed.
 pub fn run(first_seed: u64, folders: &[String], tally: Tally) -> io::Result<bool> {
@@ -31,14 +26,15 @@ pub fn run(first_seed: u64, folders: &[String], tally: Tally) -> io::Result<bool
     on_all_cores(Mutant::ALL.len(), PATIENCE, |watch, place| {
         let mutant = Mutant::ALL[place];
         let name = format!("mutant {}, {}", place + 1, mutant.name());
-        let by_case = expose(place + 1, watch, stored.iter().cloned().map(Ok))?;
+        let pair = programs(place + 1, mutant)?;
+        let by_case = expose(&pair, watch, stored.iter().cloned().map(Ok))?;
         let made = samples
             .iter()
             .map(|sample| Ok((sample.name(), sample.trace()?)));
         let by_trace = if BY_CASES_ALONE.contains(&mutant) {
             Some("not asked of generated traces".to_string())
         } else {
-            expose(place + 1, watch, made)?
+            expose(&pair, watch, made)?
         };
         let mut tally = tally.lock().unwrap();
         match (by_case, by_trace) {
@@ -73,17 +69,27 @@ pub fn run(first_seed: u64, folders: &[String], tally: Tally) -> io::Result<bool
     Ok(tally.close())
 }
 
+/// A mutant by its number, and the true rules. Mutants of the question replay as
+/// the true rules do, so they are asked.
+fn programs(number: usize, mutant: Mutant) -> io::Result<Pair> {
+    let word = if mutant.is_of_question() {
+        "asks"
+    } else {
+        "replay"
+    };
+    Ok(Pair {
+        ours: Program::this(&["mutant", &number.to_string(), word])?,
+        second: Program::this(&[word])?,
+    })
+}
+
 /// Compares a mutant with the true rules on one trace after another, each
 /// with its name, up to the first on which they differ.
 fn expose(
-    number: usize,
+    pair: &Pair,
     watch: &Watch,
     traces: impl Iterator<Item = io::Result<(String, Vec<u8>)>>,
 ) -> io::Result<Option<String>> {
-    let pair = Pair {
-        ours: Program::this(&["mutant", &number.to_string(), "replay"])?,
-        second: Program::this(&["replay"])?,
-    };
     for trace in traces {
         let (name, trace) = trace?;
         if let Some(failure) = pair.run(watch, &trace, Feed::Named)? {

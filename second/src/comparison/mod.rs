@@ -5,6 +5,7 @@ pub mod cases;
 pub mod compare;
 pub mod expose;
 mod pair;
+mod questions;
 pub mod robust;
 mod samples;
 pub mod tally;

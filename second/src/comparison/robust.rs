@@ -1,5 +1,5 @@
 //! Damaged traces of every length, on which both programs must agree, end
-//! soon and stay within a fixed memory.
+//! soon and stay within a fixed memory, and so must this one where it asks.
 
 use std::io;
 use std::sync::Mutex;
@@ -7,7 +7,7 @@ use std::time::Duration;
 
 use crate::comparison::pair::{on_all_cores, Pair};
 use crate::comparison::tally::Tally;
-use crate::comparison::watch::{Feed, Program, Watch};
+use crate::comparison::watch::{Feed, Program, Ran, Watch};
 use crate::engine::rules::Rules;
 use crate::generator::damage::{repeat_behind_setup, scatter};
 use crate::generator::generate::generate;
@@ -155,10 +155,20 @@ fn all_damage(small: &[u8], random: &mut Random) -> Vec<Damage> {
     all
 }
 
+/// What a damaged trace is tried on: both programs, and this one where it asks
+/// before each bio, which is a check of its own.
+struct Programs {
+    pair: Pair,
+    asks: Program,
+}
+
 /// Tries all damage. The answer is whether nothing failed.
 pub fn run(ours: &str, seed: u64, mut tally: Tally) -> io::Result<bool> {
-    let pair = Pair::of(ours)?;
-    let held = match hold_memory(&pair)? {
+    let free = Programs {
+        pair: Pair::of(ours)?,
+        asks: Program::this(&["asks"])?,
+    };
+    let held = match hold_memory(&free)? {
         Ok(held) => held,
         Err(reason) => {
             tally.fail(&reason);
@@ -171,19 +181,19 @@ pub fn run(ours: &str, seed: u64, mut tally: Tally) -> io::Result<bool> {
     on_all_cores(all.len(), PATIENCE, |watch, number| {
         let damage = all[number];
         let trace = damage.trace(&small, seed.wrapping_add(number as u64))?;
-        let programs = if damage.is_long() { &held } else { &pair };
-        let failure = programs.run(watch, &trace, feed_of(number, &trace))?;
+        let programs = if damage.is_long() { &held } else { &free };
+        let name = format!("{:?}", damage);
+        let title = format!("{} of seed {}", name, seed);
+        let feed = feed_of(number, &trace);
+        let failure = programs.pair.run(watch, &trace, feed)?;
+        let asked = watch.run(&programs.asks, &watch.put(&trace)?, feed)?;
         let mut tally = tally.lock().unwrap();
         tally.show_progress(number, all.len());
         match failure {
             None => tally.pass(),
-            Some(failure) => {
-                let name = format!("{:?}", damage);
-                let title = format!("{} of seed {}", name, seed);
-                failure.count(&title, &name, &trace, &mut tally)?
-            }
+            Some(failure) => failure.count(&title, &name, &trace, &mut tally)?,
         }
-        Ok(())
+        count_asked(&asked, &title, &name, &trace, &mut tally)
     })?;
     let tally = tally.into_inner().unwrap();
     tally.clear_progress();
@@ -198,6 +208,25 @@ pub fn run(ours: &str, seed: u64, mut tally: Tally) -> io::Result<bool> {
     Ok(tally.close())
 }
 
+/// Counts how this program fared on a trace where it asks.
+fn count_asked(
+    asked: &Ran,
+    title: &str,
+    name: &str,
+    trace: &[u8],
+    tally: &mut Tally,
+) -> io::Result<()> {
+    match &asked.fault {
+        None => tally.pass(),
+        Some(fault) => tally.fail_and_keep(
+            &format!("{}\nthe second program, asked, {}", title, fault),
+            name,
+            &[("trace", trace), ("asked", &asked.lines)],
+        )?,
+    }
+    Ok(())
+}
+
 /// The ways to hand a trace over take turns; small pieces take long, so they
 /// are not for the longest traces.
 fn feed_of(number: usize, trace: &[u8]) -> Feed {
@@ -208,9 +237,10 @@ fn feed_of(number: usize, trace: &[u8]) -> Feed {
     }
 }
 
-/// Both programs held to the memory that each needs for an empty trace, and
-/// a fixed amount more; or why that cannot be done.
-fn hold_memory(pair: &Pair) -> io::Result<Result<Pair, String>> {
+/// The programs held to the memory that each needs to replay an empty trace,
+/// and a fixed amount more; or why that cannot be done. Asking takes no more.
+fn hold_memory(programs: &Programs) -> io::Result<Result<Programs, String>> {
+    let pair = &programs.pair;
     let found = Mutex::new((None, None));
     on_all_cores(1, BRIEF, |watch, _| {
         let ours = least_memory(&pair.ours, watch)?;
@@ -231,9 +261,12 @@ fn hold_memory(pair: &Pair) -> io::Result<Result<Pair, String>> {
          {} more than each needs for an empty trace",
         ours, second, MORE_MEMORY
     );
-    Ok(Ok(Pair {
-        ours: pair.ours.within(ours),
-        second: pair.second.within(second),
+    Ok(Ok(Programs {
+        pair: Pair {
+            ours: pair.ours.within(ours),
+            second: pair.second.within(second),
+        },
+        asks: programs.asks.within(second),
     }))
 }
 

@@ -11,6 +11,7 @@ use crate::generator::style::Style;
 /// of `trees` and short ones are the most numerous.
 const TRACES: &[(Style, u64, u64)] = &[
     (Style::Weights, 25, 10_000),
+    (Style::Asks, 60, 800),
     (Style::Long, 25, 10_000),
     (Style::Deep, 8, 12_000),
     (Style::Full, 8, 12_000),

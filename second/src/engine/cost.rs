@@ -5,8 +5,8 @@ use crate::engine::refusal::Refusal;
 use crate::engine::rules::{Mutant, Rules};
 
 const SECOND: u64 = 1_000_000_000;
-const PAGE: u64 = 4_096;
-const SECTOR: u64 = 512;
+pub(super) const PAGE: u64 = 4_096;
+pub(super) const SECTOR: u64 = 512;
 pub const MIN_BPS: u64 = 4_096;
 pub const MAX_BPS: u64 = 1 << 40;
 pub const MAX_IOPS: u64 = 1_000_000_000;

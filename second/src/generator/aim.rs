@@ -33,6 +33,15 @@ impl Generator {
         self.pick_of(inactive)
     }
 
+    /// A leaf that is still to have its first bio; flushes do not count.
+    pub fn pick_fresh(&mut self) -> Option<usize> {
+        let controller = self.controller();
+        let fresh = members(controller.tree.leaves())
+            .filter(|&number| controller.leaves[number].end.is_none())
+            .fold(0, |set, number| set | 1 << number);
+        self.pick_of(fresh)
+    }
+
     pub fn any_leaf(&mut self) -> usize {
         let active = self.controller().active;
         let leaves = self.controller().tree.leaves();
@@ -190,6 +199,18 @@ impl Generator {
         if self.controller().period > MAX_PERIOD / 2 {
             self.put(Record::Plan);
         }
+    }
+
+    /// An active leaf that owes nothing, with a bio that waits: a dear one, if
+    /// there was none.
+    pub fn stand_waiter(&mut self) -> Option<usize> {
+        self.make_room();
+        let number = self.pick_active(|leaf| !leaf.owes())?;
+        if self.leaf(number).queue.is_empty() {
+            let dear = self.dear_bio(number, WRITE);
+            self.submit(dear);
+        }
+        Some(number)
     }
 
     /// Ticks until nothing waits at a leaf and it owes nothing, if soon.

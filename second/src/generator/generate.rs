@@ -5,6 +5,7 @@ use std::io::{self, Write};
 
 use crate::generator::damage::{damage, noise};
 use crate::generator::faults::{bad_setup, bad_tree};
+use crate::generator::moves::asks::{ask_early, ASK_MOVES};
 use crate::generator::moves::clock::CLOCK_MOVES;
 use crate::generator::moves::debt::climb_to_debt_limit;
 use crate::generator::moves::flush::FLUSH_MOVES;
@@ -13,7 +14,8 @@ use crate::generator::moves::shares::SHARE_MOVES;
 use crate::generator::moves::usual::{EDGE_MOVES, USUAL_MOVES};
 use crate::generator::moves::weight::WEIGHT_MOVES;
 use crate::generator::random::Random;
-use crate::generator::setup::{dearest_setup, deep_setup, few_setup, good_setup, wide_setup};
+use crate::generator::setup::{asked_setup, dearest_setup, deep_setup};
+use crate::generator::setup::{few_setup, good_setup, wide_setup};
 use crate::generator::state::{Generator, Move};
 use crate::generator::style::Style;
 use crate::generator::woven::woven_setup;
@@ -26,6 +28,7 @@ fn choose_setup(random: &mut Random, style: Style, climb: bool) -> Vec<Record> {
         Style::Idle | Style::Full => wide_setup(random),
         Style::Trees => bad_tree(random),
         Style::Shares => woven_setup(random),
+        Style::Asks => asked_setup(random, climb),
         Style::Edges if climb => dearest_setup(random),
         Style::Edges if random.once_in(4) => bad_setup(random),
         Style::Short if random.once_in(2) => bad_setup(random),
@@ -43,9 +46,10 @@ fn moves_of(style: Style, random: &mut Random) -> &'static [(u64, Move)] {
         Style::Clock if !random.once_in(4) => return CLOCK_MOVES,
         Style::Flushes if !random.once_in(4) => return FLUSH_MOVES,
         Style::Shares if !random.once_in(8) => return SHARE_MOVES,
+        Style::Asks if !random.once_in(4) => return ASK_MOVES,
         Style::Short | Style::Trees => 5,
         Style::Long | Style::Valid | Style::Weights => 16,
-        Style::Clock | Style::Flushes | Style::Shares => 16,
+        Style::Clock | Style::Flushes | Style::Shares | Style::Asks => 16,
         Style::Damaged | Style::Noise => 10,
         Style::Edges => 2,
     };
@@ -77,12 +81,19 @@ fn step(generator: &mut Generator, style: Style) {
 
 fn generate_whole(seed: u64, records: u64, style: Style, out: &mut impl Write) -> io::Result<()> {
     let mut generator = Generator::new(seed, style);
-    let climb = style == Style::Edges && generator.random.once_in(6);
+    let climb = match style {
+        Style::Edges => generator.random.once_in(6),
+        Style::Asks => generator.random.once_in(4),
+        _ => false,
+    };
     let setup = choose_setup(&mut generator.random, style, climb);
     generator.set_up(&setup);
     generator.left = records;
     if climb {
         climb_to_debt_limit(&mut generator);
+    }
+    if style == Style::Asks && generator.runs() {
+        ask_early(&mut generator);
     }
     while generator.runs() && generator.left > 0 {
         step(&mut generator, style);

@@ -17,6 +17,17 @@ pub const BENCH: Rates = Rates {
     wrandiops: 5_000,
 };
 
+/// Rates of which no two prices are the same: pages of 10,000 and 25,000, read
+/// bases of 30,000 and 90,000, write bases of 55,000 and 225,000.
+pub const PRICES: Rates = Rates {
+    rbps: 409_600_000,
+    rseqiops: 25_000,
+    rrandiops: 10_000,
+    wbps: 163_840_000,
+    wseqiops: 12_500,
+    wrandiops: 4_000,
+};
+
 /// The example configuration printed in the IOCost paper, figure 6.
 pub const PAPER: Rates = Rates {
     rbps: 488_636_629,
@@ -81,6 +92,21 @@ pub fn good_setup(random: &mut Random) -> Vec<Record> {
 pub fn dearest_setup(random: &mut Random) -> Vec<Record> {
     let nodes = good_tree(random);
     let rates = dearest_rates(random);
+    assemble(nodes, rates, random)
+}
+
+/// The setup records for questions: a small tree, mostly with inner nodes. Where
+/// a debt is to climb to its limit, costs come to their limit and one above it.
+pub fn asked_setup(random: &mut Random, climb: bool) -> Vec<Record> {
+    let count = random.between(4, 9);
+    let nodes = scattered_tree(random, count);
+    let rates = match random.below(6) {
+        _ if climb => limit_rates(random),
+        0 => limit_rates(random),
+        1 => any_rates(random),
+        2 => BENCH,
+        _ => PRICES,
+    };
     assemble(nodes, rates, random)
 }
 
@@ -282,26 +308,46 @@ pub fn same_rates(bps: u64, iops: u64) -> Rates {
     }
 }
 
-/// Rates with a random bio of exactly the highest cost. Cost is the time of
-/// one bio plus that of its pages behind the first, so for each iops and
-/// number of pages one page cost is left, which some bps must give.
+/// Rates with a random bio of exactly the highest cost.
 fn dearest_rates(random: &mut Random) -> Rates {
-    let mut found = Vec::new();
-    for iops in 1..100 {
-        let first = ceil(1_000_000_000, 1, iops);
-        for more_pages in 1..256 {
-            let page = (MAX_COST.0 - first) / more_pages;
-            let bps = ceil(1_000_000_000, 4_096, page);
-            let exact = first + page * more_pages == MAX_COST.0;
-            if exact && page <= first && ceil(1_000_000_000, 4_096, bps) == page {
-                found.push((bps, iops));
-            }
-        }
-    }
-    let (bps, iops) = random.pick(&found);
+    let (bps, iops) = random.pick(&rates_of(MAX_COST.0));
     Rates {
         rseqiops: 1_000,
         wseqiops: 1_000,
         ..same_rates(bps, iops)
     }
+}
+
+/// Rates with a random read of exactly the highest cost, and a random write of
+/// one more.
+fn limit_rates(random: &mut Random) -> Rates {
+    let (rbps, rrandiops) = random.pick(&rates_of(MAX_COST.0));
+    let (wbps, wrandiops) = random.pick(&rates_of(MAX_COST.0 + 1));
+    Rates {
+        rbps,
+        rseqiops: 1_000,
+        rrandiops,
+        wbps,
+        wseqiops: 1_000,
+        wrandiops,
+    }
+}
+
+/// Each bps and iops with a random bio of exactly this cost. Cost is the time
+/// of one bio plus that of its pages behind the first, so for each iops and
+/// number of pages one page cost is left, which some bps must give.
+fn rates_of(cost: u64) -> Vec<(u64, u64)> {
+    let mut found = Vec::new();
+    for iops in 1..100 {
+        let first = ceil(1_000_000_000, 1, iops);
+        for more_pages in 1..256 {
+            let page = (cost - first) / more_pages;
+            let bps = ceil(1_000_000_000, 4_096, page);
+            let exact = first + page * more_pages == cost;
+            if exact && page <= first && ceil(1_000_000_000, 4_096, bps) == page {
+                found.push((bps, iops));
+            }
+        }
+    }
+    found
 }

@@ -17,6 +17,7 @@ named_list! {
         Clock = "clock",
         Flushes = "flushes",
         Shares = "shares",
+        Asks = "asks",
     }
 }
 
@@ -39,6 +40,7 @@ impl Style {
             Style::Clock | Style::Flushes | Style::Shares => 200,
             Style::Damaged => 120,
             Style::Edges => 700,
+            Style::Asks => 800,
             Style::Noise => 300,
         }
     }

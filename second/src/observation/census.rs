@@ -10,6 +10,7 @@ use crate::engine::tree::MAX_WEIGHT;
 use crate::observation::events::Event;
 use crate::observation::flushes::Flushes;
 use crate::observation::observe::observe;
+use crate::observation::questions;
 use crate::observation::shares::PassEvents;
 use crate::trace::record::{Record, START, WEIGHT};
 use crate::trace::replay::{Outcome, Phase, Replay};
@@ -102,6 +103,7 @@ impl Census {
                 observe(&before, &record, outcome, after, hit);
                 flushes.observe(&before, &record, outcome, after, hit);
                 passes.observe(&before, &record, outcome, after, hit);
+                questions::observe(&before, &record, hit);
                 if let (Record::Node { .. }, true, Phase::Setup { tree, .. }) =
                     (record, replay.stopped(), &before)
                 {

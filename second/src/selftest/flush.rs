@@ -10,19 +10,8 @@ use crate::engine::refusal::Refusal;
 use crate::engine::rules::{Mutant, Rules};
 use crate::engine::tree::MAX_NODES;
 use crate::generator::random::Random;
-use crate::generator::setup::{same_rates, BENCH, LINUX};
+use crate::generator::setup::{same_rates, BENCH, LINUX, PRICES};
 use crate::selftest::{flat, tree_of, Checks};
-
-/// Rates of which no two prices are the same: pages of 10,000 and 25,000, read
-/// bases of 30,000 and 90,000, write bases of 55,000 and 225,000.
-const PRICES: Rates = Rates {
-    rbps: 409_600_000,
-    rseqiops: 25_000,
-    rrandiops: 10_000,
-    wbps: 163_840_000,
-    wseqiops: 12_500,
-    wrandiops: 4_000,
-};
 
 fn started(weights: &[u16], rates: &Rates, rules: Rules) -> Result<Controller, Refusal> {
     let model = Model::new(rates, rules)?;

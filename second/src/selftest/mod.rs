@@ -1,10 +1,11 @@
 //! The self test: document 01's bench numbers and whole case, numbers from
-//! outside it, the clock, flushes, what is told of bad trees, round trips, and the
-//! refusals no trace can reach.
+//! outside it, the clock, flushes, questions, what is told of bad trees, round
+//! trips, and the refusals no trace can reach.
 
 mod clock;
 mod flush;
 mod growth;
+mod question;
 mod shares;
 mod trees;
 
@@ -47,7 +48,7 @@ impl Checks {
 }
 
 /// Fewer checks are no test: a loop over nothing is no success.
-const LEAST: u64 = 6_265;
+const LEAST: u64 = 6_708;
 
 /// A group of checks; a refusal ends it where none belongs.
 type Group = fn(&mut Checks) -> Result<(), Refusal>;
@@ -78,6 +79,9 @@ const GROUPS: &[(&str, Group)] = &[
     ("refusals of flushes", flush::refusals),
     ("laws of flushes", flush::laws),
     ("noticed flushes", flush::noticed),
+    ("questions about budgets", question::budgets),
+    ("questions about prices", question::prices),
+    ("questions to refuse", question::refusals),
     ("counts of nodes", trees::counts),
     ("one bad node", trees::single_faults),
     ("two bad nodes", trees::faults_of_two),
@@ -113,6 +117,10 @@ pub fn run(out: &mut impl Write) -> io::Result<bool> {
     }
     growth::traces(&mut checks)?;
     shares::generated(&mut checks)?;
+    question::in_states(&mut checks)?;
+    question::noticed(&mut checks)?;
+    question::lines(&mut checks)?;
+    question::not_followed(&mut checks)?;
     noticed_faults(&mut checks)?;
     let made = checks.passed + checks.failures.len() as u64;
     if made < LEAST {

@@ -3,7 +3,7 @@
 
 use crate::engine::cost::{Bio, FORCED, MAX_SECTOR, WRITE};
 use crate::engine::leaf::{IDLE_CAP, QUEUE_ROOM};
-use crate::engine::numbers::{members, Relative};
+use crate::engine::numbers::Relative;
 use crate::generator::moves::clock::missing;
 use crate::generator::moves::weight::stand_donation;
 use crate::generator::state::{Generator, Move};
@@ -120,11 +120,7 @@ fn flush_at_next(g: &mut Generator) {
 /// Flushes of a leaf that had no other bio yet, then its first one: there, at
 /// sector 0 or anywhere.
 fn flush_before_first(g: &mut Generator) {
-    let controller = g.controller();
-    let fresh = members(controller.tree.leaves())
-        .filter(|&number| controller.leaves[number].end.is_none())
-        .fold(0, |set, number| set | 1 << number);
-    let number = match g.pick_of(fresh) {
+    let number = match g.pick_fresh() {
         None => return flush_over_near(g),
         Some(number) => number,
     };
@@ -197,15 +193,10 @@ fn flush_at_full_queue(g: &mut Generator) {
 
 /// A dear waiter, then an unforced and a forced flush that would fit.
 fn flush_past_waiter(g: &mut Generator) {
-    g.make_room();
-    let number = match g.pick_active(|leaf| !leaf.owes()) {
+    let number = match g.stand_waiter() {
         None => return usual_flush(g),
         Some(number) => number,
     };
-    if g.leaf(number).queue.is_empty() {
-        let dear = g.dear_bio(number, WRITE);
-        g.submit(dear);
-    }
     let forced = far_flush(g, number, FORCED);
     let wanted = g.relative(number, &forced);
     g.grow_budget(number, Relative(2 * wanted.0), 0);

@@ -1,5 +1,6 @@
 //! The moves of generated traces, by their aim.
 
+pub mod asks;
 pub mod clock;
 pub mod debt;
 pub mod donation;

@@ -155,15 +155,10 @@ fn fill_queue(g: &mut Generator) {
 
 /// A dear waiter, then a forced and an unforced bio that would fit.
 fn pass_waiters(g: &mut Generator) {
-    g.make_room();
-    let number = match g.pick_active(|leaf| !leaf.owes()) {
+    let number = match g.stand_waiter() {
         None => return usual_bio(g),
         Some(number) => number,
     };
-    if g.leaf(number).queue.is_empty() {
-        let dear = g.dear_bio(number, WRITE);
-        g.submit(dear);
-    }
     let forced = g.cheap_bio(number, FORCED);
     let wanted = g.relative(number, &forced);
     g.grow_budget(number, Relative(2 * wanted.0), 0);
@@ -220,7 +215,7 @@ fn save_for_dear_bio(g: &mut Generator) {
 }
 
 /// Two plans with time but few bios between, so that leaves go inactive.
-fn fall_silent(g: &mut Generator) {
+pub fn fall_silent(g: &mut Generator) {
     for _ in 0..2 {
         let elapsed = g.random.between(1, 10_000_000);
         g.tick(elapsed);
