@@ -9,7 +9,7 @@ use Rattle.rules.specs.Words.{has}
 use Rattle.rules.specs.Tree.{isLeaf}
 use Rattle.rules.specs.Budget.{rowAt, shareAt, wouldBe}
 use Rattle.rules.specs.Refusals.{answerPaper, answerValues, paperOf, submitChecks}
-use Rattle.rules.specs.Question.{ownAt, ownOf, ruling, asked, question}
+use Rattle.rules.specs.Question.{ownAt, ownOf, asked, question}
 use Rattle.rules.specs.Invariant.{Sound}
 use Rattle.rules.specs.Laws.Trees.{leaves-are}
 use Rattle.rules.specs.Laws.Questions.{question-on-paper}

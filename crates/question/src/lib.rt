@@ -1,7 +1,6 @@
 // Request Six, the question: what a bio would be answered, asked before it is sent. "The state stays": a question is lent it,
 // copies out what is the bio's node's own, and hands that on. Nothing is written, and no state is handed back.
 ghost use mathlib.Core.Path.{_≡_};
-ghost use Prim.Native.Nat.{_<_};
 ghost use Rattle.rules.specs.Budget.{wouldBe};
 ghost use Rattle.rules.specs.Refusals.{answerPaper, answerValues, paperOf, submitChecks};
 ghost use Rattle.rules.specs.Question.{ownOf, asked, question};

@@ -19,7 +19,7 @@ use Rattle.rules.specs.declared.refusals.Refusal.the-variants.{NoLeaf}
 use Rattle.rules.specs.declared.refusals.Costing.{Costing}
 use Rattle.rules.specs.declared.refusals.Costing.the-variants.{Costs, Refused as Uncosted}
 use Rattle.rules.specs.declared.refusals.Answer.{Answer}
-use Rattle.rules.specs.declared.refusals.Answer.the-variants.{Issued, Waits}
+use Rattle.rules.specs.declared.refusals.Answer.the-variants.{Waits}
 use Rattle.rules.specs.declared.refusals.Ruling.{Ruling}
 use Rattle.submit.specs.OnLeaf.{isTaken, CanAnswer, CanRule, CanBook}
 use Rattle.submit.proofs.Shapes.{waits-with-room, issues-what-fits}

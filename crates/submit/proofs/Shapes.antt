@@ -16,7 +16,7 @@ use Rattle.rules.specs.Refusals.{firstOf, costChecks, roomChecks, submitChecks}
 use Rattle.rules.specs.Entries.{costing, submittedBy, submitted}
 use Rattle.rules.specs.Question.{unlessRefused, whenActive}
 use Rattle.rules.specs.Invariant.{Sound, SoundModel, SoundTree, Within}
-use Rattle.rules.specs.Laws.Costs.{priced-sound, bio-in-range, costing-costs-exactly-when}
+use Rattle.rules.specs.Laws.Costs.{priced-sound}
 use Rattle.rules.specs.Laws.Trees.{leaf-last, last-most}
 use Rattle.rules.specs.Laws.Resharing.{Reweighed, activeWith, activated-is, entering-keeps, entering-reweighs, entered-is-active}
 use Rattle.rules.specs.Laws.Submits.{costIn, reweighed-debt, reweighed-queue, reweighed-cost}
@@ -41,11 +41,10 @@ use Rattle.rules.specs.declared.refusals.Costing.the-variants.{Costs, Refused a
 use Rattle.rules.specs.declared.refusals.Answer.{Answer}
 use Rattle.rules.specs.declared.refusals.Answer.the-variants.{Issued, Waits, OnDebt, Refused as Declined}
 use Rattle.leaf.specs.Alone.{lengthOnly, answerWith}
-use Rattle.leaf.specs.Fit.{CanTake}
 use Rattle.submit.specs.declared.Queueing.{Queueing}
 use Rattle.submit.specs.declared.Queueing.the-variants.{Stays, Joins}
 use Rattle.submit.specs.declared.Judged.{Judged}
-use Rattle.submit.specs.OnLeaf.{isTaken, CanBook, queueing, queued, bookedBy, onLeaf}
+use Rattle.submit.specs.OnLeaf.{isTaken, queueing, queued, bookedBy, onLeaf}
 
 -- ---- refusals 7 and 8
 module _ (a : Answer) (cost : Abs) (row : Row) (n : ℕ) where

@@ -2,17 +2,17 @@
 -- states where another leaf, another share or another row would answer otherwise, and the bench's run with a question before each bio.
 -- Assumes nothing.
 use mathlib.Core.Path.{_≡_, refl}
-use mathlib.Core.Bool.{Bool, true, false}
+use mathlib.Core.Bool.{true, false}
 use mathlib.Core.List.{List, [], _∷_, _++_}
 use Prim.Native.Nat.{ℕ, _+_, _-_, _^_}
 use lib.ListN.{replicate}
 use Rattle.rules.specs.Numbers.{WHOLE}
 use Rattle.rules.specs.Units.{abs, virt}
 use Rattle.rules.specs.Cost.{priced}
-use Rattle.rules.specs.Budget.{emptyRow, emptyQueue, fresh, rowAt, queueAt, withSharing, putLeaf, withBudget, withDebt, withEnd}
+use Rattle.rules.specs.Budget.{emptyRow, emptyQueue, fresh, rowAt, queueAt, withSharing, putLeaf, withBudget, withDebt}
 use Rattle.rules.specs.Refusals.{answerPaper}
 use Rattle.rules.specs.Entries.{submitted}
-use Rattle.rules.specs.Question.{ownAt, ruling, asked, question}
+use Rattle.rules.specs.Question.{ruling, asked, question}
 use Rattle.rules.specs.Ledger.{Call, after, costWaiting, costOfFirst, costOn, releasedAt, repaidAt, forgivenAt, accepted, issued, released, repaid, forgiven, generated, exact}
 use Rattle.rules.specs.declared.cost.Model.{Model}
 use Rattle.rules.specs.declared.cost.Bio.{Bio}

@@ -10,7 +10,7 @@ use Rattle.rules.specs.Numbers.{WHOLE, leafMost, queueRoom, costMost, de
 use Rattle.rules.specs.Words.{has}
 use Rattle.rules.specs.Cost.{isForced, bioInRange}
 use Rattle.rules.specs.Tree.{isLeaf}
-use Rattle.rules.specs.Budget.{rowAt, queueAt, shareAt, lengthOnly, answerTo, entered, answerIn, submission, wouldBe}
+use Rattle.rules.specs.Budget.{rowAt, queueAt, shareAt, lengthOnly, answerTo, answerIn, submission, wouldBe}
 use Rattle.rules.specs.Refusals.{firstOf, costChecks, roomChecks, submitChecks, answerPaper, answerValues, paperOf}
 use Rattle.rules.specs.Entries.{costing, costingBy, submittedBy, submitted}
 use Rattle.rules.specs.Question.{ownAt, unlessRefused, whenActive, whenInactive, rulingBy, ruling, asked, question}

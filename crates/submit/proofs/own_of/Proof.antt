@@ -1,6 +1,5 @@
 -- `own_of` meets its contract: each part is the one that it is handed.
 -- Assumes nothing.
-use mathlib.Core.Path.{_≡_}
 use borrow.Author.Needs.{needs}
 use Rattle.submit.proofs.own_of.Statement.{statement}
 use Rattle.submit.proofs.own_of.Tie as tie

@@ -1,6 +1,5 @@
 -- `when_inactive` meets its contract, by the forced flag.
 -- Assumes nothing.
-use mathlib.Core.Path.{_≡_, refl}
 use borrow.Author.Needs.{needs}
 use Rattle.rules.specs.Question.{whenInactive}
 use Rattle.submit.proofs.when_inactive.Statement.{statement}
