@@ -1,4 +1,4 @@
-// What comes next in a generated run: it depends on nothing but the draw before.
+// What comes next in a generated run: it depends on nothing but its number and the draw before.
 use rules::cost::Bio;
 
 pub(crate) const FIRST: u64 = 88172645463325252;
@@ -16,7 +16,7 @@ pub(crate) enum Move {
     Plan,
 }
 
-// Leaves most often, the third of them seldom, so that it falls asleep; the root, the group, and nodes that are not there.
+// Leaves most often, one of them seldom, so that it falls asleep; the root, the group, and nodes that are not there.
 fn node(draw: u64) -> u8 {
     let nodes = [2u8, 2, 2, 2, 4, 4, 4, 5, 5, 5, 3, 0, 1, 6, 63, 200];
     nodes[(draw % 16) as usize]
@@ -42,13 +42,13 @@ fn sector(draw: u64) -> u64 {
     sectors[(draw % 8) as usize]
 }
 
-// 0 bytes are a flush, of a write; 513 are none of a block.
+// 0 bytes are a flush, of a write; 513 are no number of blocks.
 fn bytes(draw: u64) -> u32 {
     let bytes = [4096u32, 4096, 4096, 512, 8192, 0, 12288, 513];
     bytes[(draw % 8) as usize]
 }
 
-// Only leaves 4 and 5 write: their debts are never paid, and the others can go on.
+// Of the leaves only 4 and 5 write: they owe for long, and the others can go on.
 fn bio(draw: u64) -> Bio {
     let node = node(draw);
     let mut flags = flags(draw / 16);
@@ -69,19 +69,9 @@ fn elapsed(draw: u64) -> u64 {
     elapsed[(draw % 8) as usize]
 }
 
-// Where plans are many, a leaf that is seldom asked falls asleep; where they are rare, debts come to their limit, since a plan
-// forgives half of them.
-fn is_plan(draw: u64, rare: bool) -> bool {
-    if rare {
-        draw % 8192 == 0
-    } else {
-        draw % 8 == 0
-    }
-}
-
-pub(crate) fn drawn(draw: u64, rare: bool) -> Move {
+fn any(draw: u64) -> Move {
     let rest = draw / 1048576;
-    if is_plan(draw / 16, rare) {
+    if (draw / 16) % 8 == 0 {
         return Move::Plan;
     }
     if (draw / 131072) % 8 < 2 {
@@ -89,4 +79,46 @@ pub(crate) fn drawn(draw: u64, rare: bool) -> Move {
     } else {
         Move::Send(bio(rest))
     }
+}
+
+fn of_leaf(node: u8, flags: u8, sector: u64, bytes: u32) -> Move {
+    Move::Send(Bio {
+        node,
+        flags,
+        id: 7,
+        sector,
+        bytes,
+    })
+}
+
+// A leaf that a flush woke has saved half of what its first bio costs, and more than the same read would cost had there been
+// one before.
+fn opening(i: usize) -> Move {
+    if i == 0 {
+        return of_leaf(3, 1, 0, 0);
+    }
+    if i == 1 {
+        return Move::Tick(1000000000);
+    }
+    if i == 2 {
+        return Move::Tick(50000);
+    }
+    of_leaf(3, 0, 8, 4096)
+}
+
+const OPENING: usize = 4;
+
+// Forced writes of two seconds each, with no tick and no plan between: 549 of them are a debt at its limit.
+const DEAR_FROM: usize = 30000;
+
+const DEAR_TO: usize = 30700;
+
+pub(crate) fn drawn(draw: u64, i: usize) -> Move {
+    if i < OPENING {
+        return opening(i);
+    }
+    if (DEAR_FROM <= i) & (i < DEAR_TO) {
+        return of_leaf(5, 3, 8, 8192);
+    }
+    any(draw)
 }

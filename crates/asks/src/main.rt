@@ -1,5 +1,5 @@
 // Asks before each submission of a generated run, and says how often each answer came, and how often question and submission
-// differed. For the benchmark, `asks questions` and `asks submissions` make nothing but those, one after the other.
+// differed. For the benchmark, a word asks for nothing but questions or nothing but submissions, one after the other.
 mod calls;
 mod draws;
 mod often;
@@ -8,20 +8,16 @@ mod say;
 mod states;
 mod tally;
 
-// The first byte of a word, which is enough to tell the words apart; 0 where there is none.
-fn first(word: &[u8]) -> u8 {
-    if 0 < word.len() { word[0] } else { 0 }
-}
-
-fn measured() {
-    let mut word = io::buffer();
-    let length = os::arg(1, &mut word);
-    let asked = first(&word[..length]);
-    if asked == b'q' {
-        often::questions();
+fn measured(word: &[u8]) {
+    if check::same(word, b"issued") {
+        often::issued();
         return;
     }
-    if asked == b's' {
+    if check::same(word, b"owing") {
+        often::owing();
+        return;
+    }
+    if check::same(word, b"submissions") {
         often::submissions();
         return;
     }
@@ -29,10 +25,17 @@ fn measured() {
 }
 
 fn main() {
-    if os::arg_count() > 1 {
-        measured();
+    let words = os::arg_count();
+    if words < 2 {
+        let counts = run::counts();
+        say::counts(counts);
         return;
     }
-    let counts = run::counts();
-    say::counts(counts);
+    let mut word = io::buffer();
+    let length = os::arg(1, &mut word);
+    if (words > 2) | (os::errno() != 0) {
+        say::usage();
+        return;
+    }
+    measured(&word[..length]);
 }

@@ -1,4 +1,4 @@
-// Questions of a state that is lent, and for the benchmark nothing but questions and nothing but submissions.
+// A question of a state that is lent, and for the benchmark nothing but questions and nothing but submissions.
 ghost use mathlib.Core.Path.{_≡_};
 ghost use Rattle.rules.specs.Question.{question};
 ghost use Rattle.rules.specs.Invariant.{Sound};
@@ -10,7 +10,7 @@ use rules::budget::Controller;
 use rules::cost::Bio;
 use rules::refusals::Answer;
 
-// Asks of a state that is lent for the question.
+// Asks of its own copy of the state, which it lends: a run of calls is not measured.
 pub(crate) fn told(c: Controller, bio: Bio) -> Answer
     requires { ⌜ Sound c ⌝ }
     ensures { λ r. ⌜ r ≡ question bio c ⌝ }
@@ -86,20 +86,31 @@ fn read() -> Bio {
     }
 }
 
-// A state in which leaf 4 has saved: it has waited for a second, beside nobody.
+// A state in which leaf 4 owes, and each such read goes on debt: a million of them come to a fiftieth of what it may owe.
+fn in_debt() -> Controller
+    ensures { λ r. ⌜ Sound r ⌝ }
+{
+    calls::submit(states::fresh(), read())
+}
+
+// One in which it has repaid that and saved, and the read would be issued.
 fn saved() -> Controller
     ensures { λ r. ⌜ Sound r ⌝ }
 {
-    let c = calls::submit(states::fresh(), read());
-    calls::tick(c, 1000000000)
+    calls::tick(in_debt(), 1000000000)
 }
 
-pub(crate) fn questions() {
+pub(crate) fn issued() {
     let last = asked_often(saved(), read(), QUESTIONS);
-    say::made(b"questions: ", QUESTIONS, last.sector);
+    say::made(b"issued: ", QUESTIONS, last.sector);
+}
+
+pub(crate) fn owing() {
+    let last = asked_often(in_debt(), read(), QUESTIONS);
+    say::made(b"owing: ", QUESTIONS, last.sector);
 }
 
 pub(crate) fn submissions() {
-    let last = sent_often(saved(), read(), SUBMISSIONS);
+    let last = sent_often(in_debt(), read(), SUBMISSIONS);
     say::made(b"submissions: ", SUBMISSIONS, last.sector);
 }

@@ -11,17 +11,13 @@ use rules::budget::Controller;
 use rules::cost::Bio;
 
 // How many moves a run has.
-const MOVES: usize = 100000;
-
-// How many of them come with many plans.
-const HALF: usize = 50000;
+const MOVES: usize = 60000;
 
 // No time comes near this in so many moves.
 const LATEST: u64 = 1152921504606846976;
 
 struct Played {
     state: Controller,
-    time: u64,
     tally: Tally,
 }
 
@@ -34,38 +30,36 @@ fn later(time: u64, elapsed: u64) -> u64 {
     time
 }
 
-fn sent(c: Controller, bio: Bio, time: u64, tally: Tally) -> Played
+fn sent(c: Controller, bio: Bio, tally: Tally) -> Played
     requires { ⌜ Sound c ⌝ }
     ensures { λ r. ⌜ Sound (r .state) ⌝ }
 {
+    let noticed = tally::noticed(tally, c, bio);
     let before = told(c, bio);
     let done = submit::submit(c, bio);
     let answer = done.answer;
     let state = done.state;
     Played {
         state,
-        time,
-        tally: tally::counted(tally, before, answer),
+        tally: tally::counted(noticed, before, answer),
     }
 }
 
-fn moved(c: Controller, next: Move, time: u64, tally: Tally) -> Played
+fn moved(c: Controller, next: Move, tally: Tally) -> Played
     requires { ⌜ Sound c ⌝ }
     ensures { λ r. ⌜ Sound (r .state) ⌝ }
 {
     match next {
-        Move::Send(bio) => sent(c, bio, time, tally),
+        Move::Send(bio) => sent(c, bio, tally),
         Move::Tick(elapsed) => {
-            let time = later(time, elapsed);
+            let clock = c.clock;
             Played {
-                state: calls::tick(c, time),
-                time,
+                state: calls::tick(c, later(clock.time, elapsed)),
                 tally,
             }
         }
         Move::Plan => Played {
             state: calls::plan(c),
-            time,
             tally,
         },
     }
@@ -74,17 +68,15 @@ fn moved(c: Controller, next: Move, time: u64, tally: Tally) -> Played
 pub(crate) fn counts() -> Tally {
     let mut c = states::fresh();
     let mut draw = draws::FIRST;
-    let mut time: u64 = 0;
     let mut tally = tally::empty();
     for i in 0..MOVES {
         draw = draws::next(draw);
-        let next = draws::drawn(draw, HALF < i);
-        let done = moved(c, next, time, tally);
+        let next = draws::drawn(draw, i);
+        let done = moved(c, next, tally);
         let state = done.state;
         let counted = done.tally;
         c = state;
         tally = counted;
-        time = done.time;
     }
     tally
 }

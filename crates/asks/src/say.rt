@@ -18,7 +18,10 @@ pub(crate) fn counts(tally: Tally) {
     line(b"refused 6 ", tally.counts[5]);
     line(b"refused 7 ", tally.counts[6]);
     line(b"refused 8 ", tally.counts[7]);
-    line(b"other ", tally.counts[8]);
+    line(b"any other ", tally.counts[8]);
+    line(b"of a leaf that sleeps ", tally.asleep);
+    line(b"of a donor ", tally.gives);
+    line(b"of a leaf that had no bio but a flush ", tally.first);
     line(b"answered otherwise than asked ", tally.differ);
 }
 
@@ -29,5 +32,5 @@ pub(crate) fn made(what: &[u8], times: u64, last: u64) {
 }
 
 pub(crate) fn usage() {
-    io::write_all(STDERR_FILENO, b"usage: asks [questions|submissions]\n");
+    io::write_all(STDERR_FILENO, b"usage: asks [issued|owing|submissions]\n");
 }

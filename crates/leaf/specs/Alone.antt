@@ -25,7 +25,8 @@ staysWith row waiting = stays row (lengthOnly waiting)
 abbrev pub isDonorWith : ℕ → ℕ → Row → ℕ → Bool
 isDonorWith target base row waiting = isDonor target base row (lengthOnly waiting)
 
--- ---- nothing is lost by it: of the cap and of who stays by definition, of the answer by a law (`answer-by-count`), and of a donor
+-- ---- nothing is lost by it: of the cap and of who stays by definition, of the answer by `answer-by-count` in the rules' Laws/Answers,
+-- and of a donor by this
 pub donor-by-count : (target base : ℕ) (row : Row) (q : Queue) → isDonor target base row q ≡ isDonorWith target base row (q .len)
 unfolding isDonor
 donor-by-count target base row q = refl

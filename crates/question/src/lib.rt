@@ -21,11 +21,11 @@ pub fn answer(bio: Bio, own: Own) -> Answer
     ensures { λ r. ⌜ r ≡ asked bio own ⌝ }
 {
     let ruled = submit::rule(bio, own);
-    let answer = ruled.answer;
-    answer
+    ruled.answer
 }
 
-// What is the node's own is handed on.
+// What `ask` copied out of the state goes on from here: `ask` itself is proved step by step, so whatever is worked out is not
+// in it.
 fn handed(
     bio: Bio,
     node: usize,

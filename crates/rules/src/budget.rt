@@ -52,8 +52,8 @@ pub struct Controller {
     pub queues: [Queue; 64],
 }
 
-// Request Six: what a question is shown. "It looks only at that leaf's own row and the model": whether the node is a leaf
-// and active, the model, and of the node's books the share, the row and how many wait.
+// Request Six: what a question is shown, since it ".. looks only at that leaf's own row and the model": whether the node is
+// a leaf and active, the model, and of the node's books the share, the row and how many wait.
 pub struct Own {
     pub leaf: bool,
     pub active: bool,

@@ -53,7 +53,7 @@ use Rattle.submit.specs.declared.Shares.the-variants.{Stand, Activate, R
 use Rattle.submit.specs.declared.Decision.{Decision}
 use Rattle.submit.specs.OnLeaf.{isTaken, CanRule, CanBook, queued, bookedBy, onLeaf}
 use Rattle.submit.proofs.Shares.{the-type}
-use Rattle.submit.proofs.Shapes.{leaf-node, at-node, found, model-is-sound, no-leaf, unfit, Ready, ready-there, landed, submits, booked-answer, joins-to-wait, no-budget-gained, wakes, woken-within}
+use Rattle.submit.proofs.Shapes.{leaf-node, at-node, found, model-is-sound, no-leaf, unfit, Ready, ready-there, landed, submits, joins-to-wait, no-budget-gained, wakes, woken-within}
 use Rattle.submit.proofs.Rulings.{no-leaf-ruled, uncosted-ruled, active-ruled, inactive-ruled, taken-is, booking-there, waits-there}
 use Rattle.submit.specs.Decision.{placeOf, viewOf, viewAt, CanDecide, sharesAfter, declined, activates, judgedAt, ownIn, decisionBy, decision}
 
@@ -93,12 +93,10 @@ module _ (b : Bio) (n : ℕ) (v : View) {o : Own} {r : Ruling} {t : Bool} (i : o
             booking-there b (ownIn n v) (taken-is b (ownIn n v) u) (awake _ (has (v .active) n) u (sym wakes-it ∙ w)) (can-rule n v refl can)
 
     pub judges : {share : ℕ} {j : Judged} {s : Shares} → share ≡ v .share → j ≡ bookedBy (r .answer) b (r .cost) share (v .row)
-        → s ≡ sharesAfter (r .answer) (v .donors) n
-        → _≡_ {A = Decision} (record { answer = r .answer; shares = s; row = j .row; queue = j .queue }) (decision b n v)
+        → s ≡ sharesAfter (j .answer) (v .donors) n
+        → _≡_ {A = Decision} (record { answer = j .answer; shares = s; row = j .row; queue = j .queue }) (decision b n v)
     unfolding decision decisionBy
-    judges h l s =
-        rw (s, l, h, is-ruled, sym wakes-it ∙ w)
-        (rw (booked-answer b (ruling b (ownIn n v) .cost) (v .share) (v .row) (ruling b (ownIn n v) .answer)))
+    judges h l s = rw (s, l, h, is-ruled, sym wakes-it ∙ w)
 
 -- ---- the decision by what the view shows
 module _ (b : Bio) (n : ℕ) (v : View) where

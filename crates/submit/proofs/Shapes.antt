@@ -137,13 +137,6 @@ module _ (b : Bio) (cost : Abs) (share : ℕ) (row : Row) where
   books-nothing OnDebt k = absurd (true-not-false refl k)
   books-nothing (Declined x) k = refl
 
-  pub booked-answer : (a : Answer) → bookedBy a b cost share row .answer ≡ a
-  unfolding bookedBy
-  booked-answer Issued = refl
-  booked-answer Waits = refl
-  booked-answer OnDebt = refl
-  booked-answer (Declined x) = refl
-
   -- only a bio that is to wait joins the queue
   pub joins-to-wait : (a : Answer) {k : Abs} → bookedBy a b cost share row .queue ≡ Joins k → a ≡ Waits
   unfolding bookedBy queueing

@@ -1,7 +1,8 @@
 // Submitting a bio: refusals 4 to 8 in their order, an inactive leaf's activation, the answer, and what it does to the
 // leaf and to a donation. What happens inside one row and one queue is the crate leaf's. No node but the bio's is touched
-// unless shares change. `decide` says all of this from what it is shown of one leaf, so these rules stand once in code. The
-// caller that holds the state, which is `submit` here or a run of calls, carries the decision out where the state stands.
+// unless shares change. `rule` is the one decision, by what is the node's own; a question goes by it too. `decide` adds what
+// the answer does to that leaf and to the shares, from what it is shown of one leaf. The caller that holds the state, which is
+// `submit` here or a run of calls, carries this out where the state stands.
 ghost use mathlib.Core.Path.{_≡_};
 ghost use Prim.Native.Nat.{_^_, _≤_, _<_};
 ghost use Rattle.rules.specs.Numbers.{costMost, debtMost, nodesMost, queueRoom};
@@ -201,6 +202,7 @@ pub fn rule(bio: Bio, own: Own) -> Ruling
     }
 }
 
+// A bio that is not refused is taken: it wakes its leaf, and is booked.
 fn is_taken(answer: Answer) -> bool
     ensures { λ r. ⌜ r ≡ isTaken answer ⌝ }
 {
@@ -333,6 +335,7 @@ pub fn decide(bio: Bio, node: usize, view: View) -> Decision
         };
     }
     let judged = booked(bio, answer, cost, wide(view.share), row);
+    let answer = judged.answer;
     let next = judged.row;
     let queue = judged.queue;
     Decision {

@@ -67,10 +67,13 @@ questionNumbers =
     ∷ see (says (asked (at 0 40 4096) (half (first 200000 0) 0)) ++ says (asked (at 2 0 4096) (half (first 199999 0) 0))) (0 ∷ 73 ∷ 0 ∷ 68 ∷ [])
     -- a write of one page costs 40,000 there and 200,000 as the first; a flush 20,000, wherever it lies
     ∷ see (says (asked (at 1 40 4096) (half (near 80000 0) 0)) ++ says (asked (at 1 40 4096) (half (near 79999 0) 0))) (0 ∷ 73 ∷ 0 ∷ 87 ∷ [])
+    ∷ see (says (asked (at 1 40 4096) (half (first 400000 0) 0)) ++ says (asked (at 1 40 4096) (half (first 399999 0) 0))) (0 ∷ 73 ∷ 0 ∷ 87 ∷ [])
     ∷ see (says (asked (at 1 900 0) (half (first 40000 0) 0)) ++ says (asked (at 1 900 0) (half (first 39999 0) 0))) (0 ∷ 73 ∷ 0 ∷ 87 ∷ [])
-    -- of another share: 20,000 is 20,000 of the whole device, and 21,474,837 at the least share
+    -- of another share: 20,000 is 20,000 of the whole device, 21,474,837 at a share of 1,000,000, rounded up, and 20,971,520,000 at the
+    -- least share
     ∷ see (says (asked (at 0 40 4096) (leafOn M WHOLE (near 20000 0) 0)) ++ says (asked (at 0 40 4096) (leafOn M WHOLE (near 19999 0) 0))) (0 ∷ 73 ∷ 0 ∷ 87 ∷ [])
     ∷ see (says (asked (at 0 40 4096) (leafOn M 1000000 (near 21474837 0) 0)) ++ says (asked (at 0 40 4096) (leafOn M 1000000 (near 21474836 0) 0))) (0 ∷ 73 ∷ 0 ∷ 87 ∷ [])
+    ∷ see (says (asked (at 0 40 4096) (leafOn M 1024 (near 20971520000 0) 0)) ++ says (asked (at 0 40 4096) (leafOn M 1024 (near 20971519999 0) 0))) (0 ∷ 73 ∷ 0 ∷ 87 ∷ [])
     -- what waits comes first, and a forced one goes past it
     ∷ see (says (asked (at 0 40 4096) (half (near 40000 0) 1)) ++ says (asked (at 2 40 4096) (half (near 40000 0) 1))) (0 ∷ 87 ∷ 0 ∷ 73 ∷ [])
     -- a debt of 1: neither is issued
@@ -96,7 +99,7 @@ questionNumbers =
     ∷ see (says (asked (at 1 900 0) (resting (half emptyRow 0))) ++ says (asked (at 3 900 0) (resting (half emptyRow 0)))) (0 ∷ 87 ∷ 0 ∷ 68 ∷ [])
     ∷ see (says (asked (at 4 40 4096) (resting (half emptyRow 0))) ++ says (asked (at 1 40 12288) (resting (leafOn slow WHOLE emptyRow 0)))) (5 ∷ 6 ∷ [])
     ∷ see (says (asked (at 0 40 4096) (resting (half (near 0 0) 8))) ++ says (asked (at 2 40 4096) (resting (half (near 0 (2 ^ 40)) 0)))) (0 ∷ 87 ∷ 0 ∷ 68 ∷ [])
-    -- the cost that is booked: the bio's, at an active leaf and at any other; none where it was refused 4, 5 or 6
+    -- the cost that is found beside the answer: the bio's, at an active leaf and at any other; none where it was refused 4, 5 or 6
     ∷ see (ruling (at 0 40 4096) (half (near 40000 0) 0) .cost .0 ∷ ruling (at 0 40 4096) (half (near 0 0) 8) .cost .0 ∷ []) (20000 ∷ 20000 ∷ [])
     ∷ see (ruling (at 0 40 4096) (resting (half emptyRow 0)) .cost .0 ∷ ruling (at 0 40 4096) (inner (half (near 40000 0) 0)) .cost .0 ∷ []) (100000 ∷ 0 ∷ [])
     ∷ see (ruling (at 4 40 4096) (half (near 40000 0) 0) .cost .0 ∷ ruling (at 3 40 12288) (leafOn slow WHOLE (near 40000 0) 0) .cost .0 ∷ []) (0 ∷ 0 ∷ [])

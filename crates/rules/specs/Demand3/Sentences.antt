@@ -17,9 +17,9 @@ use Rattle.rules.specs.Entries.{started}
 use Rattle.rules.specs.Invariant.{Sound}
 use Rattle.rules.specs.Bench.Run.{Move, left, runTree, runRates, begun, moves, upTo, weights, weightsUpTo, aged}
 use Rattle.rules.specs.Bench.Flushes.{ssdRates, flushing, flushBegun, flushedUpTo}
-use Rattle.rules.specs.Ledger.{Call, after, waiting, owed, accepted, issued, released, repaid, forgiven, generated, charged, saved}
+use Rattle.rules.specs.Ledger.{Call, after, waiting, owed, accepted, issued, released, repaid, forgiven, generated, exact, charged, saved}
 use Rattle.rules.specs.Demand3.Steps.{call-keeps, call-flow, call-books}
-use Rattle.rules.specs.Demand3.Heads.{generated-is-the-growth-of-virtual-time}
+use Rattle.rules.specs.Demand3.Heads.{generated-is-the-growth-of-virtual-time, a-question-counts-nothing}
 use Rattle.rules.specs.Laws.Units.{ceil-enough}
 use Rattle.rules.specs.Laws.Starts.{start-gives, start-saves-nothing, start-owes-nothing, clock-keeps}
 use Rattle.rules.specs.declared.cost.Bio.{Bio}
@@ -67,8 +67,7 @@ pub books-balance-between : (ks : List Call) {c : Controller} → Sound c → (n
 books-balance-between [] {c} sound n = omega arith
 books-balance-between (k ∷ ks) {c} sound n = omega (arith, call-books k sound n, books-balance-between ks (call-keeps k sound) n)
 
--- ---- request Six: questions leave no trace. The same calls without them reach the same state, and count the same in every head
--- to which a question adds nothing, which is each of the ledger's (`a-question-counts-nothing` in Demand3/Heads)
+-- ---- request Six: questions leave no trace. The same calls without them reach the same state, and add up to the same in every head
 abbrev pub unasked : List Call → List Call
 unasked [] = []
 unasked (Call.submit b ∷ ks) = Call.submit b ∷ unasked ks
@@ -85,14 +84,34 @@ questions-leave-no-trace (Call.tick time lent ∷ ks) c = questions-leave-no-tra
 questions-leave-no-trace (Call.plan ∷ ks) c = questions-leave-no-trace ks (after Call.plan c)
 questions-leave-no-trace (Call.set x ∷ ks) c = questions-leave-no-trace ks (after (Call.set x) c)
 
-pub questions-add-nothing : (head : Call → Controller → ℕ) → ((b : Bio) (c : Controller) → head (Call.ask b) c ≡ 0)
+without-questions : (head : Call → Controller → ℕ) → ((b : Bio) (c : Controller) → head (Call.ask b) c ≡ 0)
     → (ks : List Call) (c : Controller) → sumOf head ks c ≡ sumOf head (unasked ks) c
-questions-add-nothing head none [] c = refl
-questions-add-nothing head none (Call.submit b ∷ ks) c = omega (arith, questions-add-nothing head none ks (after (Call.submit b) c))
-questions-add-nothing head none (Call.ask b ∷ ks) c = omega (arith, none b c, questions-add-nothing head none ks c)
-questions-add-nothing head none (Call.tick time lent ∷ ks) c = omega (arith, questions-add-nothing head none ks (after (Call.tick time lent) c))
-questions-add-nothing head none (Call.plan ∷ ks) c = omega (arith, questions-add-nothing head none ks (after Call.plan c))
-questions-add-nothing head none (Call.set x ∷ ks) c = omega (arith, questions-add-nothing head none ks (after (Call.set x) c))
+without-questions head none [] c = refl
+without-questions head none (Call.submit b ∷ ks) c = omega (arith, without-questions head none ks (after (Call.submit b) c))
+without-questions head none (Call.ask b ∷ ks) c = omega (arith, none b c, without-questions head none ks c)
+without-questions head none (Call.tick time lent ∷ ks) c = omega (arith, without-questions head none ks (after (Call.tick time lent) c))
+without-questions head none (Call.plan ∷ ks) c = omega (arith, without-questions head none ks (after Call.plan c))
+without-questions head none (Call.set x ∷ ks) c = omega (arith, without-questions head none ks (after (Call.set x) c))
+
+pub record SameSums (ks ls : List Call) (c : Controller) : Type 0 where
+  pub all-accepted : (n : ℕ) → sumOf (λ k s. accepted k s n) ks c ≡ sumOf (λ k s. accepted k s n) ls c
+  pub all-issued : (n : ℕ) → sumOf (λ k s. issued k s n) ks c ≡ sumOf (λ k s. issued k s n) ls c
+  pub all-released : (n : ℕ) → sumOf (λ k s. released k s n) ks c ≡ sumOf (λ k s. released k s n) ls c
+  pub all-repaid : (n : ℕ) → sumOf (λ k s. repaid k s n) ks c ≡ sumOf (λ k s. repaid k s n) ls c
+  pub all-forgiven : (n : ℕ) → sumOf (λ k s. forgiven k s n) ks c ≡ sumOf (λ k s. forgiven k s n) ls c
+  pub all-generated : sumOf generated ks c ≡ sumOf generated ls c
+  pub all-exact : sumOf exact ks c ≡ sumOf exact ls c
+
+pub questions-add-nothing : (ks : List Call) (c : Controller) → SameSums ks (unasked ks) c
+questions-add-nothing ks c = record {
+  all-accepted = λ n. without-questions (λ k s. accepted k s n) (λ b s. a-question-counts-nothing b s .none-accepted n) ks c;
+  all-issued = λ n. without-questions (λ k s. issued k s n) (λ b s. a-question-counts-nothing b s .none-issued n) ks c;
+  all-released = λ n. without-questions (λ k s. released k s n) (λ b s. a-question-counts-nothing b s .none-released n) ks c;
+  all-repaid = λ n. without-questions (λ k s. repaid k s n) (λ b s. a-question-counts-nothing b s .none-repaid n) ks c;
+  all-forgiven = λ n. without-questions (λ k s. forgiven k s n) (λ b s. a-question-counts-nothing b s .none-forgiven n) ks c;
+  all-generated = without-questions generated (λ b s. a-question-counts-nothing b s .none-generated) ks c;
+  all-exact = without-questions exact (λ b s. a-question-counts-nothing b s .none-exact) ks c;
+}
 
 -- ---- from a fresh start
 module _ (tree : Tree) (rates : Rates) (time : ℕ) (ks : List Call) where

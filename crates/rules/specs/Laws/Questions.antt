@@ -2,7 +2,8 @@
 -- an active leaf and at any other node; and that nothing decides it but what is the leaf's own.
 -- Assumes nothing.
 use mathlib.Core.Path.{_≡_, refl, sym, ap, _∙_}
-use mathlib.Core.Bool.{Bool, true, false}
+use mathlib.Core.Bool.{Bool, true, false, not}
+use mathlib.Core.List.{_∷_}
 use Prim.Native.Nat.{ℕ, _+_, _*_, _≤_}
 use native.Mathlib.Omega.{arith}
 use borrow.Author.Tests.{le-ltb, lt-leb}
@@ -11,7 +12,7 @@ use Rattle.rules.specs.Words.{has}
 use Rattle.rules.specs.Cost.{isForced, bioInRange}
 use Rattle.rules.specs.Tree.{isLeaf}
 use Rattle.rules.specs.Budget.{rowAt, queueAt, shareAt, lengthOnly, answerTo, answerIn, submission, wouldBe}
-use Rattle.rules.specs.Refusals.{firstOf, costChecks, roomChecks, submitChecks, answerPaper, answerValues, paperOf}
+use Rattle.rules.specs.Refusals.{_⇒_, firstOf, costChecks, roomChecks, submitChecks, answerPaper, answerValues, paperOf}
 use Rattle.rules.specs.Entries.{costing, costingBy, submittedBy, submitted}
 use Rattle.rules.specs.Question.{ownAt, unlessRefused, whenActive, whenInactive, rulingBy, ruling, asked, question}
 use Rattle.rules.specs.Invariant.{Sound}
@@ -33,6 +34,7 @@ use Rattle.rules.specs.declared.budget.Queue.{Queue}
 use Rattle.rules.specs.declared.budget.Own.{Own}
 use Rattle.rules.specs.declared.budget.Controller.{Controller}
 use Rattle.rules.specs.declared.refusals.Refusal.{Refusal}
+use Rattle.rules.specs.declared.refusals.Refusal.the-variants.{NoLeaf}
 use Rattle.rules.specs.declared.refusals.Verdict.{Verdict}
 use Rattle.rules.specs.declared.refusals.Verdict.the-variants.{Accepted, Refused}
 use Rattle.rules.specs.declared.refusals.Costing.{Costing}
@@ -66,6 +68,14 @@ uncosted-refuses model row b x = go (firstOf (costChecks model row b))
     go : (v : Verdict) → costingBy v model row b ≡ Uncosted x → v ≡ Refused x
     go Accepted e = never (cc)
     go (Refused y) e = cc
+
+pub costed-passes : (model : Model) (row : Row) (b : Bio) (cost : Abs) → costing model row b ≡ Costs cost → firstOf (costChecks model row b) ≡ Accepted
+unfolding costing costingBy
+costed-passes model row b cost = go (firstOf (costChecks model row b))
+  where
+    go : (v : Verdict) → costingBy v model row b ≡ Costs cost → v ≡ Accepted
+    go Accepted e = refl
+    go (Refused y) e = never (cc)
 
 -- what owes nothing and waits for nothing has room for any answer
 pub idle-has-room : (a : Answer) (cost : Abs) (row : Row) (q : Queue) → row .debt .0 ≡ 0 → q .len ≡ 0 → cost .0 ≤ costMost
@@ -189,6 +199,23 @@ module _ {c : Controller} (s : Sound c) (b : Bio) where
       go : (v : Verdict) → firstOf (submitChecks b c) ≡ v → submitted b c .answer ≡ unlessRefused v (whenInactive (isForced b))
       go Accepted e = inactive-answers off e
       go (Refused x) e = answered-by b c ∙ rw e
+
+  -- 7 and 8 can't hold there: 4 to 6 are all that it can be refused
+  pub any-other-node-is-refused-4-to-6-alone : has (c .active) (b .node) ≡ false
+      → question b c
+      ≡ unlessRefused (firstOf ((not (isLeaf (c .tree) (b .node)) ⇒ NoLeaf) ∷ costChecks (c .model) (rowAt c (b .node)) b)) (whenInactive (isForced b))
+  unfolding asked ruling rulingBy unlessRefused
+  any-other-node-is-refused-4-to-6-alone off = go (isLeaf (c .tree) (b .node)) refl
+    where
+      costed : isLeaf (c .tree) (b .node) ≡ true → (k : Costing) → costing (c .model) (rowAt c (b .node)) b ≡ k
+          → question b c ≡ unlessRefused (firstOf (costChecks (c .model) (rowAt c (b .node)) b)) (whenInactive (isForced b))
+      costed l (Costs cost) e = by-costing l e ∙ rw (off, costed-passes (c .model) (rowAt c (b .node)) b cost e)
+      costed l (Uncosted x) e = by-costing l e ∙ rw (uncosted-refuses (c .model) (rowAt c (b .node)) b x e)
+
+      go : (t : Bool) → isLeaf (c .tree) (b .node) ≡ t
+          → question b c ≡ unlessRefused (firstOf ((not t ⇒ NoLeaf) ∷ costChecks (c .model) (rowAt c (b .node)) b)) (whenInactive (isForced b))
+      go true l = costed l (costing (c .model) (rowAt c (b .node)) b) refl
+      go false l = rw (own-leaf ∙ l)
 
 -- the same of submission: what it answers is decided by what is the leaf's own, whatever the others hold
 pub nothing-else-decides-a-submission : (b : Bio) {c d : Controller} → Sound c → Sound d → Alike (b .node) c d

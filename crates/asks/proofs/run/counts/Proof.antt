@@ -8,10 +8,10 @@ use Rattle.asks.proofs.run.counts.Statement.{statement}
 use Rattle.asks.proofs.run.counts.Tie as tie
 
 abbrev Inv-loop : tie.InvT-loop
-Inv-loop c₀ draw₀ time₀ tally₀ i₀ c draw time tally i = Sound c × (i ≤ 100000)
+Inv-loop c₀ draw₀ tally₀ i₀ c draw tally i = Sound c × (i ≤ 60000)
 
 abbrev μ-loop : tie.MeasureT-loop
-μ-loop c₀ draw₀ time₀ tally₀ i₀ c draw time tally i = 100000 - i
+μ-loop c₀ draw₀ tally₀ i₀ c draw tally i = 60000 - i
 
 fresh-requires : tie.Need-fresh-requires Inv-loop μ-loop
 fresh-requires c κs = search needs
