@@ -32,7 +32,7 @@ pub(crate) const BIO_BYTES: usize = 14;
 pub(crate) const WEIGHT_WEIGHT: usize = 1;
 
 // "One byte of kind .."
-pub(crate) fn body_len(kind: u8) -> usize
+pub fn body_len(kind: u8) -> usize
     requires { ⌜ isKind kind ≡ true ⌝ }
     ensures { λ r. ⌜ r ≡ total (layout kind) ⌝ }
 {
@@ -49,7 +49,7 @@ pub(crate) fn body_len(kind: u8) -> usize
 }
 
 // "Setup: 1 node .. After start: .. 7 vrate"; request One's "trace record 8"
-pub(crate) fn is_kind(kind: u8) -> bool
+pub fn is_kind(kind: u8) -> bool
     ensures { λ r. ⌜ r ≡ isKind kind ⌝ }
 {
     if kind < 1 {

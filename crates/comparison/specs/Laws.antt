@@ -1,0 +1,3 @@
+-- Laws of the comparison, and its theorems.
+pub mod Steps
+pub mod Records
