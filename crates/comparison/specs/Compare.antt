@@ -20,6 +20,8 @@ use Rattle.comparison.specs.declared.Likeness.the-variants.{Equal, Prefi
 use Rattle.comparison.specs.declared.Error.{Error}
 use Rattle.comparison.specs.declared.Error.the-variants.{At as ErrorAt, Nothing as NoError}
 use Rattle.comparison.specs.declared.Comparison.{Comparison}
+use Rattle.comparison.specs.declared.Longer.{Longer}
+use Rattle.comparison.specs.declared.Longer.the-variants.{First as LongerFirst, Second as LongerSecond, Neither as NoLonger}
 use Rattle.comparison.specs.declared.Extent.{Extent}
 use Rattle.comparison.specs.declared.Extent.the-variants.{Whole, End, Refused}
 use Rattle.comparison.specs.declared.Step.{Step}
@@ -187,14 +189,22 @@ compared first second from = unlessError (errorOf first second) (comparedFrom fi
 
 -- ---- "When one is a prefix of the other, hand back the remaining records of the longer trace; in every other case, equal
 -- traces too, the empty rest of the first"
-abbrev pub restBy : Likeness → Ends → List ℕ → List ℕ → List ℕ
-restBy Prefix (EndsFirst n) first second = drop (length first) second
-restBy Prefix (EndsSecond n) first second = drop (length second) first
-restBy Prefix (Neither n) first second = drop (length first) first
-restBy Prefix NoEnd first second = drop (length first) first
-restBy Equal e first second = drop (length first) first
-restBy Different e first second = drop (length first) first
-restBy Untold e first second = drop (length first) first
+abbrev pub longerBy : Likeness → Ends → Longer
+longerBy Prefix (EndsFirst n) = LongerSecond
+longerBy Prefix (EndsSecond n) = LongerFirst
+longerBy Prefix (Neither n) = NoLonger
+longerBy Prefix NoEnd = NoLonger
+longerBy Equal e = NoLonger
+longerBy Different e = NoLonger
+longerBy Untold e = NoLonger
+
+abbrev pub longerOf : Comparison → Longer
+longerOf c = longerBy (c .likeness) (c .ends)
+
+abbrev pub restBy : Longer → List ℕ → List ℕ → List ℕ
+restBy LongerFirst first second = drop (length second) first
+restBy LongerSecond first second = drop (length first) second
+restBy NoLonger first second = drop (length first) first
 
 unfoldable pub restOf : List ℕ → List ℕ → List ℕ
-restOf first second = restBy (compared first second 0 .likeness) (compared first second 0 .ends) first second
+restOf first second = restBy (longerOf (compared first second 0)) first second

@@ -1,2 +1,3 @@
 pub mod Compare
 pub mod Laws
+pub mod Theorems

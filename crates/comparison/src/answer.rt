@@ -5,6 +5,7 @@ use crate::Difference;
 use crate::Ends;
 use crate::Error;
 use crate::Likeness;
+use crate::Longer;
 use crate::Side;
 use crate::Step;
 use crate::Walk;
@@ -12,7 +13,7 @@ use crate::both::step;
 use crate::both::walk;
 use crate::one::error_in;
 ghost use mathlib.Core.Path.{_≡_};
-ghost use Rattle.comparison.specs.Compare.{errorOf, endsBy, equalIf, prefixIf, likenessBy, concluded, troubled, compared, restOf};
+ghost use Rattle.comparison.specs.Compare.{errorOf, endsBy, equalIf, prefixIf, likenessBy, concluded, troubled, compared, longerBy, longerOf, restOf};
 
 // The first trace's error before the second's.
 fn error_of(first: &[u8], second: &[u8]) -> Error
@@ -104,5 +105,41 @@ pub fn compare(first: &[u8], second: &[u8], from: usize) -> Comparison
             let w = walk(first, second, from);
             concluded(step(first, w.first, second, w.second), w)
         }
+    }
+}
+
+// The trace that ends first is the prefix, so the other one is longer.
+fn longer_by(ends: Ends) -> Longer
+    ensures { λ r. ⌜ r ≡ longerBy Likeness.Prefix ends ⌝ }
+{
+    match ends {
+        Ends::First(_) => Longer::Second,
+        Ends::Second(_) => Longer::First,
+        Ends::Neither(_) => Longer::Neither,
+        Ends::Untold => Longer::Neither,
+    }
+}
+
+pub fn longer(c: Comparison) -> Longer
+    ensures { λ r. ⌜ r ≡ longerOf c ⌝ }
+{
+    let likeness = c.likeness;
+    let ends = c.ends;
+    match likeness {
+        Likeness::Prefix => longer_by(ends),
+        Likeness::Equal => Longer::Neither,
+        Likeness::Different => Longer::Neither,
+        Likeness::Untold => Longer::Neither,
+    }
+}
+
+// The remaining records of the longer trace, as a part of it; in every other case the empty rest of the first.
+pub fn rest<'a>(first: &'a [u8], second: &'a [u8]) -> &'a [u8]
+    ensures { λ r. ⌜ now r ≡ restOf (now (first .entry)) (now (second .entry)) ⌝ }
+{
+    match longer(compare(first, second, 0)) {
+        Longer::First => &first[second.len()..],
+        Longer::Second => &second[first.len()..],
+        Longer::Neither => &first[first.len()..],
     }
 }

@@ -47,6 +47,13 @@ pub struct Comparison {
     pub likeness: Likeness,
 }
 
+// Which trace has a rest: the longer one, where the other is a prefix of it.
+pub enum Longer {
+    First,
+    Second,
+    Neither,
+}
+
 // What stands at a place: a whole record of this kind with the place behind it, the end, or why there is no record.
 pub enum Extent {
     Whole(u8, usize),

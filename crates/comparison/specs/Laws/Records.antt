@@ -3,7 +3,7 @@
 use mathlib.Core.Path.{_≡_, refl, sym, ap, _∙_}
 use mathlib.Core.Bool.{Bool, true, false, cond, not, _&&_}
 use mathlib.Core.List.{List, [], _∷_, _++_, append-nil, append-assoc}
-use mathlib.Core.Logic.{_⊎_, inl, inr}
+use mathlib.Core.Logic.{_↔_}
 use Prim.Native.Nat.{ℕ, zero, suc, _+_, _-_, _≤_, _<_}
 use native.Mathlib.Omega.{arith}
 use lib.Dec.{eqb, leb}
@@ -63,23 +63,28 @@ one-list-of-records {trace} (one-more {next = n} v more) (one-more {next = m} w 
     rw (on, one-list-of-records more (rw on at less))
 
 -- ---- no error exactly where there are only records, up to the end
+-- whole records, one behind the other, lead from a place to another
+pub data Leads (trace : List ℕ) : ℕ → ℕ → Type 0 where
+  here : {at : ℕ} → Leads trace at at
+  past : {at kind next end : ℕ} → WholeAt trace at kind next → Leads trace next end → Leads trace at end
+
 pub data Ending (trace : List ℕ) (at end : ℕ) : Type 0 where
   well : {rs : List (List ℕ)} → Records trace at rs → end ≡ length trace → Ending trace at end
-  badly : {x : Refusal} → readAt trace end ≡ Unread x → Ending trace at end
+  badly : {x : Refusal} → Leads trace at end → readAt trace end ≡ Unread x → Ending trace at end
 
 module _ (trace : List ℕ) where
   here-it-ends : {at : ℕ} {e : Extent} → Extending trace at e → isWhole e ≡ false → Ending trace at at
   here-it-ends (stands w) n = absurd (true-not-false refl n)
   here-it-ends (over d) n = well (none-left d) d
-  here-it-ends (broken d) n = badly d
+  here-it-ends (broken d) n = badly here d
 
   behind-it-ends : {at kind next end : ℕ} → WholeAt trace at kind next → Ending trace next end → Ending trace at end
   behind-it-ends w (well rs e) = well (one-more w rs) e
-  behind-it-ends w (badly d) = badly d
+  behind-it-ends w (badly way d) = badly (past w way) d
 
   ending : (f at : ℕ) → length trace < at + f → Ending trace at (recordsEndFrom f trace at)
   unfolding recordsEndFrom
-  ending zero at h = badly (beyond-is-cut trace at (omega arith))
+  ending zero at h = badly here (beyond-is-cut trace at (omega arith))
   ending (suc f) at h = go (each-extent trace at) (λ next on. ending f next (omega arith))
     where
       go : {e : Extent} → Extending trace at e → ((next : ℕ) → at < next → Ending trace next (recordsEndFrom f trace next))
@@ -109,10 +114,37 @@ module _ (trace : List ℕ) where
     where
       go : Ending trace 0 (recordsEnd trace 0) → (rs : List (List ℕ)) × Records trace 0 rs
       go (well {rs} records e) = (rs, records)
-      go (badly {x} d) =
+      go (badly {x} way d) =
           let told : errorBy side (extentAt trace (recordsEnd trace 0)) (recordsEnd trace 0) ≡ ErrorAt side x (recordsEnd trace 0) =
           ap (λ (e : Extent). errorBy side e (recordsEnd trace 0)) (extent-of trace (recordsEnd trace 0) (Unread x) d) in
           never (cc)
+
+  -- an error is where whole records lead, and there alone
+  broken-end : {x : Refusal} {at end : ℕ} → Leads trace at end → readAt trace end ≡ Unread x → recordsEnd trace at ≡ end
+  unfolding recordsEnd
+  broken-end {x} (here {at}) e =
+      records-end-here trace (suc (length trace)) at (ap isWhole (extent-of trace at (Unread x) e))
+  broken-end (past {at} w way) e = records-end-on trace at (w .extent) ∙ broken-end way e
+
+  pub error-exactly-where : (side : Side) (x : Refusal) (at : ℕ) → (errorIn side trace ≡ ErrorAt side x at) ↔ (Leads trace 0 at × (readAt trace at ≡ Unread x))
+  unfolding errorIn
+  error-exactly-where side x at = (λ e. forth e records-or-error, back)
+    where
+      forth : errorBy side (extentAt trace (recordsEnd trace 0)) (recordsEnd trace 0) ≡ ErrorAt side x at → Ending trace 0 (recordsEnd trace 0)
+          → Leads trace 0 at × (readAt trace at ≡ Unread x)
+      forth e (well records d) =
+          let none : errorBy side (extentAt trace (recordsEnd trace 0)) (recordsEnd trace 0) ≡ NoError =
+          ap (λ (f : Extent). errorBy side f (recordsEnd trace 0)) (ended-extent trace (recordsEnd trace 0) d) in
+          never (cc)
+      forth e (badly {x = y} way d) =
+          let told : errorBy side (extentAt trace (recordsEnd trace 0)) (recordsEnd trace 0) ≡ ErrorAt side y (recordsEnd trace 0) =
+          ap (λ (f : Extent). errorBy side f (recordsEnd trace 0)) (extent-of trace (recordsEnd trace 0) (Unread y) d) in
+          let place : recordsEnd trace 0 ≡ at = cc in
+          let which : y ≡ x = cc in
+          (rw place at way, rw place at d ∙ ap Unread which)
+
+      back : Leads trace 0 at × (readAt trace at ≡ Unread x) → errorBy side (extentAt trace (recordsEnd trace 0)) (recordsEnd trace 0) ≡ ErrorAt side x at
+      back w = rw (broken-end (w .0) (w .1), extent-of trace at (Unread x) (w .1))
 
 -- ---- the answer by the records: one definition for each of its members
 abbrev pub kindIn : List ℕ → ℕ

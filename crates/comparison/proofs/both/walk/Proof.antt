@@ -46,12 +46,14 @@ module _ (first second : List ℕ) (from : ℕ) where
     further : (v : Walk) → v ≡ passed from s w → Way first second from v × (w .first < v .first)
     further v e =
         let o = a-pair-goes-on first second from w is-a-pair in
-        rw (e, here)
-        (record {
-          on = sym (walk-on first second from w is-a-pair) ∙ way .on;
-          few = omega (arith, o .counted, o .first-on, way .few);
-          inside = o .first-in;
-        }, o .first-on)
+        rw (e, here) (
+          record {
+            on = sym (walk-on first second from w is-a-pair) ∙ way .on;
+            few = omega (arith, o .counted, o .first-on, way .few);
+            inside = o .first-in;
+          },
+          o .first-on,
+        )
 
 abbrev Inv-loop : tie.InvT-loop
 Inv-loop first second from w₀ w = Way first second from w
