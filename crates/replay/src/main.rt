@@ -1,11 +1,11 @@
 // Replays the trace in the file that its one argument names, or on standard input where it names none or '-'. The lines go
 // to standard output, and what goes wrong is one line on standard error. A first argument '--report' asks for a mark where
 // all went well. The program only moves bytes; what a record does and what a line says is decided in `steps` and below.
-mod descriptor;
 mod done;
 mod rounds;
 mod said;
 
+use host::report::is_asked;
 use libc::STDIN_FILENO;
 use rounds::End;
 use rounds::replay_from;
@@ -68,7 +68,7 @@ fn asked(place: usize) -> End {
 }
 
 fn main() {
-    if !done::is_asked() {
+    if !is_asked() {
         asked(1);
         return;
     }

@@ -4,7 +4,7 @@
 // What is proved of each round (`specs/Rounds`): what it replays, which lines then stand at the front of the line buffer,
 // that the loop goes on only where its writes took as many bytes as these lines have, what waits after it, and that a run
 // ends well only where the replay is over. No contract can say which bytes a write takes or a read brings. So four things
-// are for a person to read: that `round` hands `write` the front of the line buffer, that `descriptor::write` and `read`
+// are for a person to read: that `round` hands `write` the front of the line buffer, that `host::descriptor::write` and `read`
 // hand the system what they are lent, that `replay_from` begins at the beginning and goes from round to round, and that it
 // answers how its last round ended.
 ghost use mathlib.Core.Path.{_≡_};
@@ -13,10 +13,12 @@ ghost use Prim.Native.Nat.{_≤_};
 ghost use lib.ListN.{length};
 ghost use Rattle.rules.specs.Invariant.{Playing};
 ghost use Rattle.replay.specs.Rounds.{Stands, Ended, Replayed, LeftOver, Onward, OneRound, endingOf};
-use crate::descriptor::TRIES;
-use crate::descriptor::read;
-use crate::descriptor::write;
 use crate::said;
+use host::descriptor::TRIES;
+use host::descriptor::read;
+use host::descriptor::write;
+use host::said::is_watched;
+use host::said::no_progress;
 use libc::STDOUT_FILENO;
 use rules::replay::Fed;
 use rules::replay::Pause;
@@ -108,7 +110,7 @@ fn onward(pause: Pause, s: Standing, fd: i32, watched: bool, chunk: &mut [u8]) -
 // Progress is cleared from a terminal before lines are written.
 fn cleared(count: usize, total: u64, watched: bool) {
     if watched & (0 < count) {
-        said::no_progress(total);
+        no_progress(total);
     }
 }
 
@@ -168,7 +170,7 @@ fn ending(s: Standing) -> End
 }
 
 pub(crate) fn replay_from(fd: i32) -> End {
-    let watched = said::is_watched();
+    let watched = is_watched();
     let mut chunk = io::large_buffer();
     let mut out = io::large_buffer();
     let mut s = Standing {
@@ -186,7 +188,7 @@ pub(crate) fn replay_from(fd: i32) -> End {
         rounds -= 1;
     }
     if watched {
-        said::no_progress(s.total);
+        no_progress(s.total);
     }
     ending(s)
 }

@@ -1,19 +1,19 @@
--- `replay::descriptor::read` meets its contract, by what `io::count` ensures: the measure is the number of rounds that are left.
+-- `host::descriptor::read_at` meets its contract, by what `io::count` ensures: the measure is the number of rounds that are left.
 -- Assumes nothing.
 use mathlib.Core.Path.{_≡_}
 use borrow.Author.Needs.{needs}
 use lib.ListN.{length}
-use Rattle.replay.proofs.descriptor.read.Statement.{statement}
-use Rattle.replay.proofs.descriptor.read.Tie as tie
+use Rattle.host.proofs.descriptor.read_at.Statement.{statement}
+use Rattle.host.proofs.descriptor.read_at.Tie as tie
 
 abbrev Inv-loop : tie.InvT-loop
-Inv-loop fd buf₀ got₀ rounds₀ buf got rounds = length buf ≡ length buf₀
+Inv-loop fd offset buf₀ got₀ rounds₀ buf got rounds = length buf ≡ length buf₀
 
 abbrev μ-loop : tie.MeasureT-loop
-μ-loop fd buf₀ got₀ rounds₀ buf got rounds = rounds
+μ-loop fd offset buf₀ got₀ rounds₀ buf got rounds = rounds
 
-read-requires : tie.Need-read-requires Inv-loop μ-loop
-read-requires c κs = search needs
+pread-requires : tie.Need-pread-requires Inv-loop μ-loop
+pread-requires c κs = search needs
 
 loop-holds : tie.Need-loop-holds Inv-loop μ-loop
 loop-holds c = search needs
@@ -21,8 +21,8 @@ loop-holds c = search needs
 again-requires : tie.Need-again-requires Inv-loop μ-loop
 again-requires c κs = search needs
 
-read-requires-2 : tie.Need-read-requires-2 Inv-loop μ-loop
-read-requires-2 c κs = search needs
+pread-requires-2 : tie.Need-pread-requires-2 Inv-loop μ-loop
+pread-requires-2 c κs = search needs
 
 sub-rounds : tie.Need-sub-rounds Inv-loop μ-loop
 sub-rounds c = search needs
@@ -42,16 +42,16 @@ same-length c = search needs
 returns : tie.Need-returns Inv-loop μ-loop
 returns c = search needs
 
-pub read-spec : {M : Type 1} → statement M
-read-spec =
+pub read-at-spec : {M : Type 1} → statement M
+read-at-spec =
     tie.close
     (tie.spec
     Inv-loop
     μ-loop
-    read-requires
+    pread-requires
     loop-holds
     again-requires
-    read-requires-2
+    pread-requires-2
     sub-rounds
     loop-less
     loop-again

@@ -1,8 +1,8 @@
--- `replay::descriptor::write_some` meets its contract, by what `io::count` ensures: the measure is how many rounds are left.
+-- `host::descriptor::write_some` meets its contract, by what `io::count` ensures: the measure is how many rounds are left.
 -- Assumes nothing.
 use borrow.Author.Needs.{needs}
-use Rattle.replay.proofs.descriptor.write_some.Statement.{statement}
-use Rattle.replay.proofs.descriptor.write_some.Tie as tie
+use Rattle.host.proofs.descriptor.write_some.Statement.{statement}
+use Rattle.host.proofs.descriptor.write_some.Tie as tie
 
 abbrev Inv-loop : tie.InvT-loop
 Inv-loop fd buf put₀ rounds₀ put rounds = Unit {0}

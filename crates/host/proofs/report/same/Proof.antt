@@ -1,11 +1,11 @@
--- `replay::done::same` is safe and ends: the measure is what is left of the first text, and the second is as long.
+-- `host::report::same` is safe and ends: the measure is what is left of the first text, and the second is as long.
 -- Assumes nothing.
 use Prim.Native.Nat.{_≤_, _-_}
 use mathlib.Core.Path.{_≡_}
 use borrow.Author.Needs.{needs}
 use lib.ListN.{length}
-use Rattle.replay.proofs.done.same.Statement.{statement}
-use Rattle.replay.proofs.done.same.Tie as tie
+use Rattle.host.proofs.report.same.Statement.{statement}
+use Rattle.host.proofs.report.same.Tie as tie
 
 abbrev Inv-loop : tie.InvT-loop
 Inv-loop a b i₀ i = (length a ≡ length b) × (i ≤ length a)

@@ -8,7 +8,7 @@ use libc::EINTR;
 
 // A proved loop has to end, and nothing says that a call succeeds at last or that a trace ends. So such a loop counts its
 // rounds down, from a number that is never used up.
-pub(crate) const TRIES: u64 = u64::MAX;
+pub const TRIES: u64 = u64::MAX;
 
 // Is the call that just gave this answer worth making again?
 fn again(answer: isize) -> bool {
@@ -24,18 +24,34 @@ fn again(answer: isize) -> bool {
 }
 
 // What a read brought: nothing at the end of the input, and nothing where it failed.
-pub(crate) struct Got {
+pub struct Got {
     pub count: usize,
     pub failed: bool,
 }
 
-pub(crate) fn read(fd: i32, buf: &mut [u8]) -> Got
+pub fn read(fd: i32, buf: &mut [u8]) -> Got
     ensures { λ r. ⌜ r .count ≤ length (now (buf .exit)) ⌝ }
 {
     let mut got = libc::read(fd, buf);
     let mut rounds = TRIES;
     while rounds > 0 && again(got) {
         got = libc::read(fd, buf);
+        rounds -= 1;
+    }
+    Got {
+        count: io::count(got, buf),
+        failed: got < 0,
+    }
+}
+
+// Bytes of the file from an offset on, whatever was read of it before: what lies beyond the end is not there.
+pub fn read_at(fd: i32, offset: i64, buf: &mut [u8]) -> Got
+    ensures { λ r. ⌜ r .count ≤ length (now (buf .exit)) ⌝ }
+{
+    let mut got = libc::pread(fd, buf, offset);
+    let mut rounds = TRIES;
+    while rounds > 0 && again(got) {
+        got = libc::pread(fd, buf, offset);
         rounds -= 1;
     }
     Got {
@@ -59,7 +75,7 @@ fn write_some(fd: i32, buf: &[u8]) -> usize
 
 // How many of the first bytes were taken: all of them, or fewer where a write failed. Each write begins behind
 // the bytes that were taken before it.
-pub(crate) fn write(fd: i32, buf: &[u8]) -> usize
+pub fn write(fd: i32, buf: &[u8]) -> usize
     ensures { λ r. ⌜ r ≤ length (now (buf .entry)) ⌝ }
 {
     let mut done: usize = 0;

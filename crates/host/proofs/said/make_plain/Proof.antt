@@ -1,11 +1,11 @@
--- `replay::said::make_plain` is safe and ends: the measure is what is left of the name.
+-- `host::said::make_plain` is safe and ends: the measure is what is left of the name.
 -- Assumes nothing.
 use Prim.Native.Nat.{_≤_, _-_}
 use mathlib.Core.Path.{_≡_}
 use borrow.Author.Needs.{needs}
 use lib.ListN.{length, length-set}
-use Rattle.replay.proofs.said.make_plain.Statement.{statement}
-use Rattle.replay.proofs.said.make_plain.Tie as tie
+use Rattle.host.proofs.said.make_plain.Statement.{statement}
+use Rattle.host.proofs.said.make_plain.Tie as tie
 
 abbrev Inv-loop : tie.InvT-loop
 Inv-loop name₀ i₀ name i = (length name ≡ length name₀) × (i ≤ length name₀)

@@ -1,10 +1,10 @@
--- `replay::descriptor::write` is safe and ends: each round writes a byte or is the last, so the measure is what is left.
+-- `host::descriptor::write` is safe and ends: each round writes a byte or is the last, so the measure is what is left.
 -- Assumes nothing.
 use Prim.Native.Nat.{_≤_, _-_}
 use borrow.Author.Needs.{needs}
 use lib.ListN.{length}
-use Rattle.replay.proofs.descriptor.write.Statement.{statement}
-use Rattle.replay.proofs.descriptor.write.Tie as tie
+use Rattle.host.proofs.descriptor.write.Statement.{statement}
+use Rattle.host.proofs.descriptor.write.Tie as tie
 
 abbrev Inv-loop : tie.InvT-loop
 Inv-loop fd buf done₀ done = done ≤ length buf
