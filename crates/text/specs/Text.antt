@@ -5,6 +5,7 @@ use Prim.Native.Nat.{ℕ, _+_, _*_}
 use lib.ListN.{length}
 use Rattle.rules.specs.Trace.{fieldsOf}
 use Rattle.rules.specs.Replay.{numbers}
+use Rattle.text.specs.Words.{bytes}
 use Rattle.rules.specs.declared.trace.Record.{Record}
 use Rattle.rules.specs.declared.trace.Record.the-variants.{Node, Model, Start, Bio, Tick, Plan, Vrate, Weight}
 

@@ -6,7 +6,14 @@ ghost use lib.ListN.{length};
 ghost use Rattle.rules.specs.Replay.{digits, numbers};
 ghost use Rattle.rules.specs.Buffers.{Written};
 ghost use Rattle.text.specs.Text.{worded, wordedRoom, fieldRoom, recordText, textRoom};
+ghost use Rattle.text.specs.Lines.{wordLine, differsLine, endsLine, restLine, likenessLine, errorLine, differenceLine, restLengthLine, shortRoom, differsRoom};
+use comparison::Difference;
+use comparison::Ends;
+use comparison::Likeness;
+use comparison::Side;
+use lines::number_of;
 use lines::put_digits;
+use rules::refusals::Refusal;
 use rules::trace::Record;
 
 // A word as it stands.
@@ -88,4 +95,117 @@ pub fn put_record(r: Record, out: &mut [u8]) -> usize
         Record::Vrate(percent) => put_worded(b"vrate", &[percent as u64], out),
         Record::Weight(node, weight) => put_worded(b"weight", &[node as u64, weight as u64], out),
     }
+}
+
+// A word and its numbers as a line.
+fn put_line(word: &[u8], fields: &[u64], out: &mut [u8]) -> usize
+    requires { ⌜ wordedRoom (now word) (now fields) < length (now out) ⌝ }
+    ensures { λ n. ⌜ Written (wordLine (now (word .entry)) (now (fields .entry))) n (now (out .entry)) (now (out .exit)) × (n ≤ wordedRoom (now (word .entry)) (now (fields .entry)) + 1) ⌝ }
+{
+    let at = put_worded(word, fields, out);
+    out[at] = b'\n';
+    at + 1
+}
+
+// A word and a record behind it.
+fn put_before(word: &[u8], r: Record, out: &mut [u8]) -> usize
+    requires { ⌜ length (now word) + textRoom ≤ length (now out) ⌝ }
+    ensures { λ n. ⌜ Written (now (word .entry) ++ recordText r) n (now (out .entry)) (now (out .exit)) × (n ≤ length (now (word .entry)) + textRoom) ⌝ }
+{
+    let at = put_word(word, out);
+    let count = put_record(r, &mut out[at..]);
+    at + count
+}
+
+// The first record that differs: its number, its place in each trace, and what each has there.
+pub fn put_differs(
+    number: u64,
+    first: u64,
+    second: u64,
+    r: Record,
+    s: Record,
+    out: &mut [u8],
+) -> usize
+    requires { ⌜ differsRoom ≤ length (now out) ⌝ }
+    ensures { λ n. ⌜ Written (differsLine number first second r s) n (now (out .entry)) (now (out .exit)) × (n ≤ differsRoom) ⌝ }
+{
+    let head = put_worded(b"differs", &[number, first, second], out);
+    let left = put_before(b" ", r, &mut out[head..]);
+    let middle = head + left;
+    let right = put_before(b" | ", s, &mut out[middle..]);
+    let end = middle + right;
+    out[end] = b'\n';
+    end + 1
+}
+
+// Which trace ends where the other goes on, or that both end; nothing where that is not known.
+pub fn put_ends(ends: Ends, out: &mut [u8]) -> usize
+    requires { ⌜ shortRoom ≤ length (now out) ⌝ }
+    ensures { λ n. ⌜ Written (endsLine ends) n (now (out .entry)) (now (out .exit)) × (n ≤ shortRoom) ⌝ }
+{
+    match ends {
+        Ends::First(records) => put_line(b"ends first", &[records as u64], out),
+        Ends::Second(records) => put_line(b"ends second", &[records as u64], out),
+        Ends::Neither(records) => put_line(b"ends neither", &[records as u64], out),
+        Ends::Untold => 0,
+    }
+}
+
+// How many bytes of a trace were not compared.
+pub fn put_rest(side: Side, bytes: u64, out: &mut [u8]) -> usize
+    requires { ⌜ shortRoom ≤ length (now out) ⌝ }
+    ensures { λ n. ⌜ Written (restLine side bytes) n (now (out .entry)) (now (out .exit)) × (n ≤ shortRoom) ⌝ }
+{
+    match side {
+        Side::First => put_line(b"rest first", &[bytes], out),
+        Side::Second => put_line(b"rest second", &[bytes], out),
+    }
+}
+
+// The verdict on two traces; nothing where there is none.
+pub fn put_likeness(likeness: Likeness, out: &mut [u8]) -> usize
+    requires { ⌜ shortRoom ≤ length (now out) ⌝ }
+    ensures { λ n. ⌜ Written (likenessLine likeness) n (now (out .entry)) (now (out .exit)) × (n ≤ shortRoom) ⌝ }
+{
+    match likeness {
+        Likeness::Equal => put_line(b"equal", &[], out),
+        Likeness::Prefix => put_line(b"prefix", &[], out),
+        Likeness::Different => put_line(b"different", &[], out),
+        Likeness::Untold => 0,
+    }
+}
+
+// Why a trace cannot be read, and where.
+pub fn put_error(side: Side, x: Refusal, place: u64, out: &mut [u8]) -> usize
+    requires { ⌜ shortRoom ≤ length (now out) ⌝ }
+    ensures { λ n. ⌜ Written (errorLine side x place) n (now (out .entry)) (now (out .exit)) × (n ≤ shortRoom) ⌝ }
+{
+    let why = number_of(x);
+    match side {
+        Side::First => put_line(b"error first", &[why, place], out),
+        Side::Second => put_line(b"error second", &[why, place], out),
+    }
+}
+
+// The first record that differs, and the kind that each trace has there.
+pub fn put_difference(difference: Difference, out: &mut [u8]) -> usize
+    requires { ⌜ shortRoom ≤ length (now out) ⌝ }
+    ensures { λ n. ⌜ Written (differenceLine difference) n (now (out .entry)) (now (out .exit)) × (n ≤ shortRoom) ⌝ }
+{
+    match difference {
+        Difference::At(number, first, second) => put_line(
+            b"difference",
+            &[number as u64, first as u64, second as u64],
+            out,
+        ),
+        Difference::Nothing => put_line(b"difference none", &[], out),
+    }
+}
+
+// How many bytes of both were not compared.
+pub fn put_rest_length(bytes: u64, out: &mut [u8]) -> usize
+    requires { ⌜ shortRoom ≤ length (now out) ⌝ }
+    ensures { λ n. ⌜ Written (restLengthLine bytes) n (now (out .entry)) (now (out .exit)) × (n ≤ shortRoom) ⌝ }
+{
+    put_line(b"rest", &[bytes], out)
 }
