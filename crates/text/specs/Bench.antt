@@ -2,15 +2,14 @@
 -- another's place is refused here.
 -- Assumes nothing.
 use mathlib.Core.Path.{_≡_, refl}
-use mathlib.Core.Bool.{Bool, true, false, _&&_}
+use mathlib.Core.Bool.{true}
 use mathlib.Core.List.{List, [], _∷_}
 use Prim.Native.Nat.{ℕ, _-_, _^_}
 use Prim.Native.String.{String}
-use lib.Dec.{eqb}
+use Rattle.rules.specs.Bench.Edges.{Seen, see, allSame}
 use Rattle.rules.specs.Trace.{fieldsOf}
 use Rattle.rules.specs.Replay.{digits, digitsIn}
 use Rattle.rules.specs.declared.cost.Rates.{Rates}
-use Rattle.rules.specs.declared.cost.Bio.{Bio}
 use Rattle.rules.specs.declared.refusals.Refusal.the-variants.{BadTree, UnknownKind, CutShort}
 use Rattle.rules.specs.declared.tree.Fault.the-variants.{Level}
 use Rattle.rules.specs.declared.trace.Record.{Record}
@@ -23,23 +22,8 @@ use Rattle.text.specs.Words.{bytes}
 use Rattle.text.specs.Text.{nameOf, recordText}
 use Rattle.text.specs.Lines.{differsLine, endsLine, restLine, likenessLine, errorLine, differenceLine, restLengthLine}
 
--- ---- an entry of the list: what the rules give, what a reader sees
-pub record Case : Type 0 where
-  pub got : List ℕ
-  pub want : String
-
-abbrev pub reads : List ℕ → String → Case
-reads g w = record { got = g; want = w }
-
-abbrev pub same : List ℕ → List ℕ → Bool
-same [] [] = true
-same [] (b ∷ m) = false
-same (a ∷ l) [] = false
-same (a ∷ l) (b ∷ m) = eqb a b && same l m
-
-abbrev pub allRight : List Case → Bool
-allRight [] = true
-allRight (c ∷ cs) = same (c .got) (bytes (c .want)) && allRight cs
+abbrev pub reads : List ℕ → String → Seen
+reads got want = see got (bytes want)
 
 -- ---- records with another number in each field
 abbrev pub rates : Rates
@@ -48,7 +32,7 @@ rates = record { rbps = 409600000; rseqiops = 50000; rrandiops = 10000; wbps = 2
 abbrev pub bio : ℕ → Record
 bio id = BioOf (record { node = 1; flags = 2; id = id; sector = 34; bytes = 4096 })
 
-pub cases : List Case
+pub cases : List Seen
 cases =
     reads (recordText (Node 0 100)) "node 0 100"
     ∷ reads (recordText (Model rates)) "model 409600000 50000 10000 204800000 25000 5000"
@@ -78,6 +62,6 @@ cases =
     ∷ reads (restLengthLine 57) "rest 57\n"
     ∷ []
 
-pub bench : allRight cases ≡ true
+pub bench : allSame cases ≡ true
 unfolding cases nameOf fieldsOf digits digitsIn endsLine restLine likenessLine errorLine differenceLine
 bench = refl

@@ -1,6 +1,6 @@
 // Records of a trace and the lines of a comparison as text, at the front of a buffer that the caller lends: each function
 // writes one, leaves the rest of the buffer as it was, and answers how many bytes it wrote. What a line says is decided above.
-ghost use mathlib.Core.List.{[], _∷_, _++_};
+ghost use mathlib.Core.List.{_∷_, _++_};
 ghost use Prim.Native.Nat.{_+_, _*_, _≤_, _<_};
 ghost use lib.ListN.{length};
 ghost use Rattle.rules.specs.Replay.{digits, numbers};
@@ -107,7 +107,7 @@ fn put_line(word: &[u8], fields: &[u64], out: &mut [u8]) -> usize
     at + 1
 }
 
-// A word and a record behind it.
+// A word before a record.
 fn put_before(word: &[u8], r: Record, out: &mut [u8]) -> usize
     requires { ⌜ length (now word) + textRoom ≤ length (now out) ⌝ }
     ensures { λ n. ⌜ Written (now (word .entry) ++ recordText r) n (now (out .entry)) (now (out .exit)) × (n ≤ length (now (word .entry)) + textRoom) ⌝ }
@@ -117,7 +117,7 @@ fn put_before(word: &[u8], r: Record, out: &mut [u8]) -> usize
     at + count
 }
 
-// The first record that differs: its number, its place in each trace, and what each has there.
+// A record that differs: its number, the place where it begins in each trace, and what each has there.
 pub fn put_differs(
     number: u64,
     first: u64,
@@ -138,7 +138,7 @@ pub fn put_differs(
     end + 1
 }
 
-// Which trace ends where the other goes on, or that both end; nothing where that is not known.
+// Which trace ends first, or neither, and after how many records; nothing where that is not told.
 pub fn put_ends(ends: Ends, out: &mut [u8]) -> usize
     requires { ⌜ shortRoom ≤ length (now out) ⌝ }
     ensures { λ n. ⌜ Written (endsLine ends) n (now (out .entry)) (now (out .exit)) × (n ≤ shortRoom) ⌝ }
@@ -151,7 +151,7 @@ pub fn put_ends(ends: Ends, out: &mut [u8]) -> usize
     }
 }
 
-// How many bytes of a trace were not compared.
+// The rest: of which trace, and how many bytes.
 pub fn put_rest(side: Side, bytes: u64, out: &mut [u8]) -> usize
     requires { ⌜ shortRoom ≤ length (now out) ⌝ }
     ensures { λ n. ⌜ Written (restLine side bytes) n (now (out .entry)) (now (out .exit)) × (n ≤ shortRoom) ⌝ }
@@ -162,7 +162,7 @@ pub fn put_rest(side: Side, bytes: u64, out: &mut [u8]) -> usize
     }
 }
 
-// The verdict on two traces; nothing where there is none.
+// How alike two traces are; nothing where that is not told.
 pub fn put_likeness(likeness: Likeness, out: &mut [u8]) -> usize
     requires { ⌜ shortRoom ≤ length (now out) ⌝ }
     ensures { λ n. ⌜ Written (likenessLine likeness) n (now (out .entry)) (now (out .exit)) × (n ≤ shortRoom) ⌝ }
@@ -175,7 +175,7 @@ pub fn put_likeness(likeness: Likeness, out: &mut [u8]) -> usize
     }
 }
 
-// Why a trace cannot be read, and where.
+// The error of a trace: its number, and the place where the record begins that has it.
 pub fn put_error(side: Side, x: Refusal, place: u64, out: &mut [u8]) -> usize
     requires { ⌜ shortRoom ≤ length (now out) ⌝ }
     ensures { λ n. ⌜ Written (errorLine side x place) n (now (out .entry)) (now (out .exit)) × (n ≤ shortRoom) ⌝ }
@@ -187,7 +187,7 @@ pub fn put_error(side: Side, x: Refusal, place: u64, out: &mut [u8]) -> usize
     }
 }
 
-// The first record that differs, and the kind that each trace has there.
+// The first record that differs, with the kinds on both sides.
 pub fn put_difference(difference: Difference, out: &mut [u8]) -> usize
     requires { ⌜ shortRoom ≤ length (now out) ⌝ }
     ensures { λ n. ⌜ Written (differenceLine difference) n (now (out .entry)) (now (out .exit)) × (n ≤ shortRoom) ⌝ }
@@ -202,7 +202,7 @@ pub fn put_difference(difference: Difference, out: &mut [u8]) -> usize
     }
 }
 
-// How many bytes of both were not compared.
+// How many bytes the rest has.
 pub fn put_rest_length(bytes: u64, out: &mut [u8]) -> usize
     requires { ⌜ shortRoom ≤ length (now out) ⌝ }
     ensures { λ n. ⌜ Written (restLengthLine bytes) n (now (out .entry)) (now (out .exit)) × (n ≤ shortRoom) ⌝ }

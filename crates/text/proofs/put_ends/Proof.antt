@@ -1,4 +1,4 @@
--- `text::put_ends` meets its contract: each arm has the word of its own variant, and what is not known has no line.
+-- `text::put_ends` meets its contract: each arm has the word of its own variant, and what is not told has no line.
 -- Assumes nothing.
 use native.Mathlib.Omega.{arith}
 use borrow.Author.Needs.{needs}
