@@ -69,7 +69,7 @@ pub fn number_of(x: Refusal) -> u64
 }
 
 // Decimal digits without leading zeros: those of a hundredth, then the last two.
-fn put_digits(n: u64, out: &mut [u8]) -> usize
+pub fn put_digits(n: u64, out: &mut [u8]) -> usize
     requires { ⌜ length (digits n) ≤ length (now out) ⌝ }
     ensures { λ r. ⌜ Written (digits n) r (now (out .entry)) (now (out .exit)) ⌝ }
 {
