@@ -7,6 +7,7 @@ mod comparison;
 mod engine;
 mod generator;
 mod observation;
+mod pairs;
 mod selftest;
 mod text;
 mod trace;
@@ -26,6 +27,7 @@ use generator::shape::Shape;
 use generator::style::Style;
 use observation::asks::asks;
 use observation::census::Census;
+use pairs::changes::Change;
 use text::tool;
 use trace::replay::replay;
 
@@ -39,9 +41,13 @@ const USAGE: &str = "usage: second COMMAND
                                 write a trace for bench/growth or bench/shares
   census [FILE...]              count what traces reach
   compare OURS THEIRS TRACE     compare two outputs of a trace
+  pair A B                      compare two traces record by record
+  lent A B FROM                 compare two traces in memory, from a record number on
   mutants                       list the mutants
   mutant K replay [FILE]        replay a trace by changed rules
   mutant K asks [FILE]          ask by changed rules
+  mutant K pair A B             compare two traces by changed rules
+  mutant K lent A B FROM        the same for traces in memory
   selftest                      test this program
   against OURS [OPTION...]      compare with another program on many traces
   cases OURS [OPTION...]        try both programs on stored cases
@@ -59,6 +65,9 @@ fn main() -> ExitCode {
         if let Some(command) = tool::Command::named(&name.to_string_lossy()) {
             return ExitCode::from(tool::run(command, rest));
         }
+    }
+    if let Some(status) = pairs::tool::run(&words) {
+        return ExitCode::from(status);
     }
     let words: Vec<String> = words
         .iter()
@@ -240,15 +249,20 @@ fn mutant_rules(word: &str) -> Result<Rules, String> {
     let number = word.parse::<usize>().unwrap_or(0);
     match Mutant::ALL.get(number.wrapping_sub(1)) {
         Some(mutant) => Ok(Rules::with(*mutant)),
-        None => Err(format!("mutants are numbered 1 to {}", Mutant::ALL.len())),
+        None => Err(format!(
+            "mutants that replay or ask are numbered 1 to {}",
+            Mutant::ALL.len()
+        )),
     }
 }
 
 fn list_mutants() -> io::Result<bool> {
     let mut out = output();
-    writeln!(out, "{}", Mutant::ALL.len())?;
-    for (place, mutant) in Mutant::ALL.iter().enumerate() {
-        writeln!(out, "{} {}", place + 1, mutant.name())?;
+    let of_rules = Mutant::ALL.iter().map(|mutant| mutant.name());
+    let of_pairs = Change::ALL.iter().map(|change| change.name());
+    writeln!(out, "{}", Mutant::ALL.len() + Change::ALL.len())?;
+    for (place, name) in of_rules.chain(of_pairs).enumerate() {
+        writeln!(out, "{} {}", place + 1, name)?;
     }
     out.flush()?;
     Ok(true)
