@@ -19,7 +19,7 @@ use std::io::{self, BufRead, BufReader, BufWriter, Read, Write};
 use std::process::ExitCode;
 
 use comparison::tally::Tally;
-use comparison::{against, cases, compare, expose, robust};
+use comparison::{against, cases, compare, expose, pairs as two_traces, robust};
 use engine::rules::{Mutant, Rules};
 use generator::generate::generate;
 use generator::growth::{growth, Kind};
@@ -52,8 +52,9 @@ const USAGE: &str = "usage: second COMMAND
   against OURS [OPTION...]      compare with another program on many traces
   cases OURS [OPTION...]        try both programs on stored cases
   robust OURS [OPTION...]       try both programs on damaged traces
+  pairs OURS LENT [OPTION...]   compare with two programs on many pairs of traces
   expose [OPTION...]            find the traces that tell mutants apart
-options: --seed N  --cases FOLDER  --keep FOLDER  --progress
+options: --seed N  --cases FOLDER  --pairs FOLDER  --keep FOLDER  --progress
 Without FILE, standard input is read.";
 
 /// Whether a command found all as it should be, or why it could not tell.
@@ -118,9 +119,14 @@ fn run(words: &[&str]) -> Done {
             let options = Options::read(rest)?;
             robust::run(ours, options.seed, options.tally()).map_err(said)
         }
+        ["pairs", ours, lent, rest @ ..] => {
+            let options = Options::read(rest)?;
+            two_traces::run(ours, lent, options.seed, &options.cases, options.tally()).map_err(said)
+        }
         ["expose", rest @ ..] => {
             let options = Options::read(rest)?;
-            expose::run(options.seed, &options.cases, options.tally()).map_err(said)
+            let (cases, pairs) = (&options.cases, &options.pairs);
+            expose::run(options.seed, cases, pairs, options.tally()).map_err(said)
         }
         ["help" | "-h" | "--help"] => {
             println!("{}", USAGE);
@@ -143,6 +149,8 @@ fn said(fault: io::Error) -> String {
 struct Options {
     seed: u64,
     cases: Vec<String>,
+    /// Folders of stored pairs, for the mutants.
+    pairs: Vec<String>,
     keep: String,
     progress: bool,
 }
@@ -152,6 +160,7 @@ impl Options {
         let mut options = Options {
             seed: 1,
             cases: Vec::new(),
+            pairs: Vec::new(),
             keep: "differences".to_string(),
             progress: false,
         };
@@ -168,6 +177,10 @@ impl Options {
                 }
                 ["--cases", folder, rest @ ..] => {
                     options.cases.push(folder.to_string());
+                    rest
+                }
+                ["--pairs", folder, rest @ ..] => {
+                    options.pairs.push(folder.to_string());
                     rest
                 }
                 ["--keep", folder, rest @ ..] => {

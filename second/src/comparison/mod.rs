@@ -5,6 +5,7 @@ pub mod cases;
 pub mod compare;
 pub mod expose;
 mod pair;
+pub mod pairs;
 mod questions;
 pub mod robust;
 mod samples;

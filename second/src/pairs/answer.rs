@@ -137,7 +137,9 @@ pub fn write_record(record: &[u8], out: &mut impl Write) -> io::Result<()> {
         Ok(Some((record, _))) => write!(out, "{}", record),
         _ => {
             write!(out, "raw ")?;
-            record.iter().try_for_each(|byte| write!(out, "{:02x}", byte))
+            record
+                .iter()
+                .try_for_each(|byte| write!(out, "{:02x}", byte))
         }
     }
 }

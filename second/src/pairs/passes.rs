@@ -124,7 +124,11 @@ impl<R: Read> Lines<R> {
                 (Some(one), Some(other)) => [one, other],
                 (None, None) => break (None, places),
                 (one, other) => {
-                    let ended = if one.is_none() { Side::First } else { Side::Second };
+                    let ended = if one.is_none() {
+                        Side::First
+                    } else {
+                        Side::Second
+                    };
                     if self.lie == Some(Change::BehindEndDiffers) {
                         let records = [one.unwrap_or(&[]), other.unwrap_or(&[])];
                         write_difference(out, number, places, records, self.lie)?;
@@ -168,9 +172,10 @@ impl<R: Read> Lines<R> {
                 let [one, other] = &self.surveys;
                 match self.lie {
                     Some(Change::RestNamedFirst) => (Side::First, bytes),
-                    Some(Change::RestInRecords) => {
-                        (side, one.records.max(other.records) - one.records.min(other.records))
-                    }
+                    Some(Change::RestInRecords) => (
+                        side,
+                        one.records.max(other.records) - one.records.min(other.records),
+                    ),
                     _ => (side, bytes),
                 }
             }
