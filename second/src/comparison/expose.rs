@@ -24,10 +24,10 @@ pub fn run(
     first_seed: u64,
     folders: &[String],
     pairs: &[String],
-    mut tally: Tally,
+    tally: Tally,
 ) -> io::Result<bool> {
-    // These take no processes, so they come first.
-    mutants::check(first_seed, pairs, &mut tally)?;
+    // Of two traces the mutants take no processes, so they come first.
+    let tally = mutants::check(first_seed, pairs, tally)?;
     let stored = cases::traces(folders)?;
     let samples = samples(first_seed);
     let tally = Mutex::new(tally);

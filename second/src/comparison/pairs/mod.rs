@@ -1,23 +1,24 @@
 //! Two programs that compare traces, one of files and one of traces that are
 //! lent to it, held against this one on stored and on generated pairs.
 
-mod asked;
+pub mod asked;
 mod census;
 pub mod mutants;
 mod stored;
-mod told;
+pub mod told;
 
 use std::ffi::OsStr;
 use std::io;
 use std::path::PathBuf;
 use std::sync::Mutex;
 
+use crate::comparison::compare::{first_difference, show};
 use crate::comparison::pair::on_all_cores;
 use crate::comparison::pairs::asked::{lent_lines, pair_lines, Due};
 use crate::comparison::pairs::census::Census;
 use crate::comparison::pairs::stored::stored_pairs;
 use crate::comparison::tally::Tally;
-use crate::comparison::watch::{Program, Watch, PATIENCE};
+use crate::comparison::watch::{Program, Ran, Watch, PATIENCE};
 use crate::generator::pairs::pairs;
 
 /// Fewer stored pairs, fewer generated ones or a census that asks for less are
@@ -177,34 +178,25 @@ impl Due<'_> {
         tally: &Mutex<Tally>,
     ) -> io::Result<()> {
         let ran = watch.run_on(program, words)?;
-        match ran.fault {
-            None => self.hold(name, &String::from_utf8_lossy(&ran.lines), due, tally),
-            Some(fault) => self.fail(&format!("{} {}", name, fault), &ran.lines, due, tally),
+        match trouble(&ran, due)? {
+            None => tally.lock().unwrap().pass(),
+            Some(reason) => self.fail(&format!("{} {}", name, reason), &ran.lines, due, tally)?,
         }
+        Ok(())
     }
 
-    /// One check: that lines are those that are due.
+    /// One check of this program: that its lines are those that are due.
     fn hold(&self, name: &str, lines: &str, due: &str, tally: &Mutex<Tally>) -> io::Result<()> {
-        if lines == due {
-            tally.lock().unwrap().pass();
-            return Ok(());
+        match unlike(lines.as_bytes(), due)? {
+            None => tally.lock().unwrap().pass(),
+            Some(reason) => self.fail(
+                &format!("{} {}", name, reason),
+                lines.as_bytes(),
+                due,
+                tally,
+            )?,
         }
-        let place = first_unlike(lines, due);
-        let line = |lines: &str| {
-            lines
-                .lines()
-                .nth(place)
-                .unwrap_or("(no such line)")
-                .to_string()
-        };
-        let said = format!(
-            "{} prints other lines\nline {}\nprinted: {}\ndue: {}",
-            name,
-            place + 1,
-            line(lines),
-            line(due)
-        );
-        self.fail(&said, lines.as_bytes(), due, tally)
+        Ok(())
     }
 
     fn fail(&self, said: &str, lines: &[u8], due: &str, tally: &Mutex<Tally>) -> io::Result<()> {
@@ -221,9 +213,24 @@ impl Due<'_> {
     }
 }
 
-/// The first line, from 0 on, in which two outputs are unlike; the count of the
-/// shorter where it is only how they end.
-fn first_unlike(lines: &str, due: &str) -> usize {
-    let same = |(one, other): &(&str, &str)| one == other;
-    lines.lines().zip(due.lines()).take_while(same).count()
+/// What is wrong with a run whose lines are due.
+fn trouble(ran: &Ran, due: &str) -> io::Result<Option<String>> {
+    match &ran.fault {
+        Some(fault) => Ok(Some(fault.clone())),
+        None => unlike(&ran.lines, due),
+    }
+}
+
+/// The first line that is another one than is due.
+fn unlike(lines: &[u8], due: &str) -> io::Result<Option<String>> {
+    let (mut printed, mut stored) = (lines, due.as_bytes());
+    let found = first_difference(&mut printed, &mut stored)?;
+    Ok(found.map(|found| {
+        let (printed, due) = (show(&found.ours), show(&found.theirs));
+        let line = found.line;
+        format!(
+            "prints another line {}\nprinted: {}\ndue: {}",
+            line, printed, due
+        )
+    }))
 }
