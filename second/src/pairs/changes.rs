@@ -140,7 +140,7 @@ pub fn strict(record: &[u8], started: bool, lie: Lie) -> Option<Refusal> {
         Some(Change::RangeCounts) if record[0] == VRATE => {
             let vrate = u16::from_le_bytes([record[1], record[2]]);
             let in_range = (1..=MAX_VRATE).contains(&vrate);
-            (!in_range).then(|| Refusal::VrateRange)
+            (!in_range).then_some(Refusal::VrateRange)
         }
         _ => None,
     }

@@ -112,75 +112,93 @@ struct Lines<R> {
     lie: Lie,
 }
 
+/// What the second pass found: where a trace has ended, or both.
+struct Found {
+    ends: Ends,
+    differences: u64,
+    /// The place of each trace's next record, or its end.
+    places: [u64; 2],
+}
+
 impl<R: Read> Lines<R> {
     /// Writes all lines of traces without errors.
     fn write(&mut self, out: &mut impl Write) -> io::Result<Likeness> {
-        let mut number = 0;
-        let mut differences: u64 = 0;
-        let [first, second] = &mut self.traces;
-        let (ended, places) = loop {
-            let places = [first.place(), second.place()];
-            let records = match (first.next()?, second.next()?) {
-                (Some(one), Some(other)) => [one, other],
-                (None, None) => break (None, places),
-                (one, other) => {
-                    let ended = if one.is_none() {
-                        Side::First
-                    } else {
-                        Side::Second
-                    };
-                    if self.lie == Some(Change::BehindEndDiffers) {
-                        let records = [one.unwrap_or(&[]), other.unwrap_or(&[])];
-                        write_difference(out, number, places, records, self.lie)?;
-                    }
-                    break (Some(ended), places);
-                }
-            };
-            if lies::differ(records[0], records[1], self.lie) {
-                if differences == 0 || self.lie != Some(Change::FirstOnly) {
-                    write_difference(out, number, places, records, self.lie)?;
-                }
-                differences += 1;
-            }
-            number += 1;
-        };
-        let truth = match (differences, ended) {
+        let found = self.write_differences(out)?;
+        let truth = match (found.differences, found.ends.first) {
             (0, None) => Likeness::Equal,
             (0, Some(_)) => Likeness::Prefix,
             _ => Likeness::Different,
         };
-        let ends = Ends {
-            first: ended,
-            after: number,
-        };
-        let likeness = lies::likeness(truth, ends, &self.surveys, self.lie);
-        writeln!(out, "{}", lies::ends(ends, &self.surveys, self.lie))?;
-        let (side, bytes) = self.rest(likeness, ended, places);
+        let likeness = lies::likeness(truth, found.ends, &self.surveys, self.lie);
+        let ends = lies::ends(found.ends, &self.surveys, self.lie);
+        writeln!(out, "{}", ends)?;
+        let (side, bytes) = self.rest(likeness, &found);
         writeln!(out, "rest {} {}", side, bytes)?;
         writeln!(out, "{}", likeness)?;
         Ok(likeness)
     }
 
-    /// The side and the bytes of the rest, where one trace has ended and the
-    /// other's next record is at its place.
-    fn rest(&self, likeness: Likeness, ended: Option<Side>, places: [u64; 2]) -> (Side, u64) {
-        let whole = self.surveys[0].bytes;
-        match (ended, likeness) {
+    /// Goes through the records that both traces have.
+    fn write_differences(&mut self, out: &mut impl Write) -> io::Result<Found> {
+        let lie = self.lie;
+        let [first, second] = &mut self.traces;
+        let mut number = 0;
+        let mut differences = 0;
+        loop {
+            let places = [first.place(), second.place()];
+            let ended = match (first.next()?, second.next()?) {
+                (Some(one), Some(other)) => {
+                    if lies::differ(one, other, lie) {
+                        if differences == 0 || lie != Some(Change::FirstOnly) {
+                            write_difference(out, number, places, [one, other], lie)?;
+                        }
+                        differences += 1;
+                    }
+                    number += 1;
+                    continue;
+                }
+                (None, None) => None,
+                (one, other) => {
+                    if lie == Some(Change::BehindEndDiffers) {
+                        let records = [one.unwrap_or(&[]), other.unwrap_or(&[])];
+                        write_difference(out, number, places, records, lie)?;
+                    }
+                    Some(if one.is_none() {
+                        Side::First
+                    } else {
+                        Side::Second
+                    })
+                }
+            };
+            return Ok(Found {
+                ends: Ends {
+                    first: ended,
+                    after: number,
+                },
+                differences,
+                places,
+            });
+        }
+    }
+
+    /// The side and the bytes of the rest.
+    fn rest(&self, likeness: Likeness, found: &Found) -> (Side, u64) {
+        let [one, other] = &self.surveys;
+        match (found.ends.first, likeness) {
             (Some(ended), _) if lies::has_rest(likeness, self.lie) => {
                 let side = ended.other();
-                let bytes = side.of(&self.surveys).bytes - side.of(&places);
-                let [one, other] = &self.surveys;
+                let bytes = side.of(&self.surveys).bytes - side.of(&found.places);
+                let more = one.records.max(other.records) - one.records.min(other.records);
                 match self.lie {
                     Some(Change::RestNamedFirst) => (Side::First, bytes),
-                    Some(Change::RestInRecords) => (
-                        side,
-                        one.records.max(other.records) - one.records.min(other.records),
-                    ),
+                    Some(Change::RestInRecords) => (side, more),
                     _ => (side, bytes),
                 }
             }
             (Some(ended), Likeness::Prefix) => (ended, 0),
-            (_, Likeness::Equal) if self.lie == Some(Change::RestOfEqual) => (Side::First, whole),
+            (_, Likeness::Equal) if self.lie == Some(Change::RestOfEqual) => {
+                (Side::First, one.bytes)
+            }
             _ if self.lie == Some(Change::EmptyRestSecond) => (Side::Second, 0),
             _ => (Side::First, 0),
         }

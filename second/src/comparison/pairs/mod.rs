@@ -23,9 +23,9 @@ use crate::generator::pairs::pairs;
 
 /// Fewer stored pairs, fewer generated ones or a census that asks for less are
 /// no comparison.
-const LEAST_STORED: usize = 20;
-const LEAST_MADE: usize = 2_000;
-const LEAST_ASKED: usize = 70;
+const LEAST_STORED: usize = 31;
+const LEAST_MADE: usize = 2_495;
+const LEAST_ASKED: usize = 72;
 
 /// The programs to compare with.
 struct Programs {
