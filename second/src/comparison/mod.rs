@@ -4,6 +4,7 @@ pub mod against;
 pub mod cases;
 pub mod compare;
 pub mod expose;
+mod memory;
 mod pair;
 pub mod pairs;
 mod questions;

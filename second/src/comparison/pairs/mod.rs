@@ -3,6 +3,7 @@
 
 pub mod asked;
 mod census;
+mod long;
 pub mod mutants;
 mod stored;
 pub mod told;
@@ -63,6 +64,7 @@ pub fn run(
         due.try_laws(&tally)?;
         due.try_programs(&programs, watch, &tally)
     })?;
+    long::check(&programs, seed, &tally)?;
     let mut tally = tally.into_inner().unwrap();
     tally.clear_progress();
     println!(
