@@ -7,6 +7,7 @@ mod comparison;
 mod engine;
 mod generator;
 mod observation;
+mod pairs;
 mod selftest;
 mod text;
 mod trace;
@@ -18,7 +19,7 @@ use std::io::{self, BufRead, BufReader, BufWriter, Read, Write};
 use std::process::ExitCode;
 
 use comparison::tally::Tally;
-use comparison::{against, cases, compare, expose, robust};
+use comparison::{against, cases, compare, expose, pairs as two_traces, robust};
 use engine::rules::{Mutant, Rules};
 use generator::generate::generate;
 use generator::growth::{growth, Kind};
@@ -26,6 +27,7 @@ use generator::shape::Shape;
 use generator::style::Style;
 use observation::asks::asks;
 use observation::census::Census;
+use pairs::changes::Change;
 use text::tool;
 use trace::replay::replay;
 
@@ -39,15 +41,20 @@ const USAGE: &str = "usage: second COMMAND
                                 write a trace for bench/growth or bench/shares
   census [FILE...]              count what traces reach
   compare OURS THEIRS TRACE     compare two outputs of a trace
+  pair A B                      compare two traces record by record
+  lent A B FROM                 compare two traces in memory, from a record number on
   mutants                       list the mutants
   mutant K replay [FILE]        replay a trace by changed rules
   mutant K asks [FILE]          ask by changed rules
+  mutant K pair A B             compare two traces by changed rules
+  mutant K lent A B FROM        the same for traces in memory
   selftest                      test this program
   against OURS [OPTION...]      compare with another program on many traces
   cases OURS [OPTION...]        try both programs on stored cases
   robust OURS [OPTION...]       try both programs on damaged traces
+  pairs OURS LENT [OPTION...]   compare with two programs on many pairs of traces
   expose [OPTION...]            find the traces that tell mutants apart
-options: --seed N  --cases FOLDER  --keep FOLDER  --progress
+options: --seed N  --cases FOLDER  --pairs FOLDER  --keep FOLDER  --progress
 Without FILE, standard input is read.";
 
 /// Whether a command found all as it should be, or why it could not tell.
@@ -59,6 +66,9 @@ fn main() -> ExitCode {
         if let Some(command) = tool::Command::named(&name.to_string_lossy()) {
             return ExitCode::from(tool::run(command, rest));
         }
+    }
+    if let Some(status) = pairs::tool::run(&words) {
+        return ExitCode::from(status);
     }
     let words: Vec<String> = words
         .iter()
@@ -109,9 +119,14 @@ fn run(words: &[&str]) -> Done {
             let options = Options::read(rest)?;
             robust::run(ours, options.seed, options.tally()).map_err(said)
         }
+        ["pairs", ours, lent, rest @ ..] => {
+            let options = Options::read(rest)?;
+            two_traces::run(ours, lent, options.seed, &options.cases, options.tally()).map_err(said)
+        }
         ["expose", rest @ ..] => {
             let options = Options::read(rest)?;
-            expose::run(options.seed, &options.cases, options.tally()).map_err(said)
+            let (cases, pairs) = (&options.cases, &options.pairs);
+            expose::run(options.seed, cases, pairs, options.tally()).map_err(said)
         }
         ["help" | "-h" | "--help"] => {
             println!("{}", USAGE);
@@ -134,6 +149,8 @@ fn said(fault: io::Error) -> String {
 struct Options {
     seed: u64,
     cases: Vec<String>,
+    /// Folders of stored pairs, for the mutants.
+    pairs: Vec<String>,
     keep: String,
     progress: bool,
 }
@@ -143,6 +160,7 @@ impl Options {
         let mut options = Options {
             seed: 1,
             cases: Vec::new(),
+            pairs: Vec::new(),
             keep: "differences".to_string(),
             progress: false,
         };
@@ -159,6 +177,10 @@ impl Options {
                 }
                 ["--cases", folder, rest @ ..] => {
                     options.cases.push(folder.to_string());
+                    rest
+                }
+                ["--pairs", folder, rest @ ..] => {
+                    options.pairs.push(folder.to_string());
                     rest
                 }
                 ["--keep", folder, rest @ ..] => {
@@ -240,15 +262,20 @@ fn mutant_rules(word: &str) -> Result<Rules, String> {
     let number = word.parse::<usize>().unwrap_or(0);
     match Mutant::ALL.get(number.wrapping_sub(1)) {
         Some(mutant) => Ok(Rules::with(*mutant)),
-        None => Err(format!("mutants are numbered 1 to {}", Mutant::ALL.len())),
+        None => Err(format!(
+            "mutants that replay or ask are numbered 1 to {}",
+            Mutant::ALL.len()
+        )),
     }
 }
 
 fn list_mutants() -> io::Result<bool> {
     let mut out = output();
-    writeln!(out, "{}", Mutant::ALL.len())?;
-    for (place, mutant) in Mutant::ALL.iter().enumerate() {
-        writeln!(out, "{} {}", place + 1, mutant.name())?;
+    let of_rules = Mutant::ALL.iter().map(|mutant| mutant.name());
+    let of_pairs = Change::ALL.iter().map(|change| change.name());
+    writeln!(out, "{}", Mutant::ALL.len() + Change::ALL.len())?;
+    for (place, name) in of_rules.chain(of_pairs).enumerate() {
+        writeln!(out, "{} {}", place + 1, name)?;
     }
     out.flush()?;
     Ok(true)

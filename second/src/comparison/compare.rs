@@ -87,7 +87,8 @@ pub fn record_behind(trace: impl Read, line: u64) -> io::Result<Option<Found>> {
     Ok(last)
 }
 
-fn show(line: &Option<Vec<u8>>) -> String {
+/// A line as it is told.
+pub fn show(line: &Option<Vec<u8>>) -> String {
     match line {
         None => "(no such line)".to_string(),
         Some(bytes) => match bytes.strip_suffix(b"\n") {

@@ -8,6 +8,7 @@ use std::time::Duration;
 
 use crate::comparison::cases;
 use crate::comparison::pair::{on_all_cores, Pair};
+use crate::comparison::pairs::mutants;
 use crate::comparison::samples::samples;
 use crate::comparison::tally::Tally;
 use crate::comparison::watch::{Feed, Program, Watch, PATIENCE};
@@ -19,7 +20,14 @@ use crate::text::assemble::assemble_whole;
 const BY_CASES_ALONE: [Mutant; 2] = [Mutant::ThinAtNode, Mutant::RatesBeforePhase];
 
 /// Tries all wrong programs. The answer is whether each was noticed.
-pub fn run(first_seed: u64, folders: &[String], tally: Tally) -> io::Result<bool> {
+pub fn run(
+    first_seed: u64,
+    folders: &[String],
+    pairs: &[String],
+    tally: Tally,
+) -> io::Result<bool> {
+    // Of two traces the mutants take no processes, so they come first.
+    let tally = mutants::check(first_seed, pairs, tally)?;
     let stored = cases::traces(folders)?;
     let samples = samples(first_seed);
     let tally = Mutex::new(tally);

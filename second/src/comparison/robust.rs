@@ -5,6 +5,7 @@ use std::io;
 use std::sync::Mutex;
 use std::time::Duration;
 
+use crate::comparison::memory::{least_memory, BRIEF, LONGEST, MORE_MEMORY};
 use crate::comparison::pair::{on_all_cores, Pair};
 use crate::comparison::tally::Tally;
 use crate::comparison::watch::{Feed, Program, Ran, Watch};
@@ -18,21 +19,6 @@ use crate::trace::stream::Reader;
 
 /// A program that takes longer than this for the longest trace hangs.
 const PATIENCE: Duration = Duration::from_secs(300);
-
-/// With too little memory a program may hang, as an emulator does, where it
-/// should say so. An empty trace takes no time, so it need not be waited for.
-const BRIEF: Duration = Duration::from_secs(2);
-
-/// How many bytes the longest traces have.
-const LONGEST: u64 = 10_000_000;
-
-/// A trace may take so many KiB more than an empty one. The longest is longer
-/// than that, so that a program which holds all of it is found out.
-const MORE_MEMORY: u64 = 8 * 1024;
-
-/// What a program needs may vary from run to run, under an emulator by some
-/// MiB: memory is enough if it is so as often as this.
-const TRIES: usize = 8;
 
 /// How a trace is damaged, and its length.
 #[derive(Clone, Copy, Debug)]
@@ -118,7 +104,7 @@ fn small_trace(seed: u64) -> io::Result<Vec<u8>> {
 }
 
 /// A generated trace of so many bytes, most likely cut inside a record.
-fn long_trace(length: u64, seed: u64) -> io::Result<Vec<u8>> {
+pub fn long_trace(length: u64, seed: u64) -> io::Result<Vec<u8>> {
     let mut trace = Vec::new();
     // A record takes 7 bytes at the very least on the average.
     generate(seed, length / 7, Style::Weights, &mut trace)?;
@@ -243,8 +229,8 @@ fn hold_memory(programs: &Programs) -> io::Result<Result<Programs, String>> {
     let pair = &programs.pair;
     let found = Mutex::new((None, None));
     on_all_cores(1, BRIEF, |watch, _| {
-        let ours = least_memory(&pair.ours, watch)?;
-        let second = least_memory(&pair.second, watch)?;
+        let ours = least_of(&pair.ours, watch)?;
+        let second = least_of(&pair.second, watch)?;
         *found.lock().unwrap() = (ours, second);
         Ok(())
     })?;
@@ -270,34 +256,11 @@ fn hold_memory(programs: &Programs) -> io::Result<Result<Programs, String>> {
     }))
 }
 
-/// The least memory in KiB, to a quarter MiB, in which a program takes an
-/// empty trace.
-fn least_memory(program: &Program, watch: &Watch) -> io::Result<Option<u64>> {
+/// The least memory in which a program takes an empty trace.
+fn least_of(program: &Program, watch: &Watch) -> io::Result<Option<u64>> {
     let empty = watch.put(&[])?;
-    let takes = |memory: u64| -> io::Result<bool> {
-        for _ in 0..TRIES {
-            let ran = watch.run(&program.within(memory), &empty, Feed::Named)?;
-            if ran.fault.is_some() {
-                return Ok(false);
-            }
-        }
-        Ok(true)
-    };
-    let mut enough = 1_024;
-    while !takes(enough)? {
-        enough *= 2;
-        if enough > 1 << 32 {
-            return Ok(None);
-        }
-    }
-    let mut short = 0;
-    while enough - short > 256 {
-        let middle = (enough + short) / 2;
-        if takes(middle)? {
-            enough = middle;
-        } else {
-            short = middle;
-        }
-    }
-    Ok(Some(enough))
+    least_memory(|memory| {
+        let ran = watch.run(&program.within(memory), &empty, Feed::Named)?;
+        Ok(ran.fault.is_none())
+    })
 }

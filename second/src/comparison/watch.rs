@@ -1,6 +1,7 @@
 //! A replay program run on a trace under watch: what it prints, and whether
 //! it crashed, hung or complained.
 
+use std::ffi::OsStr;
 use std::fs::{self, File};
 use std::io::{self, Write};
 use std::os::raw::c_int;
@@ -56,6 +57,12 @@ impl Program {
         words.extend_from_slice(&self.words);
         Program { words }
     }
+
+    fn command(&self) -> Command {
+        let mut command = Command::new(&self.words[0]);
+        command.args(&self.words[1..]);
+        command
+    }
 }
 
 /// How a program gets the trace.
@@ -98,34 +105,58 @@ impl Watch {
 
     /// Writes a trace for the next runs and answers its path.
     pub fn put(&self, trace: &[u8]) -> io::Result<PathBuf> {
-        let path = self.folder.join("trace");
+        self.put_as("trace", trace)
+    }
+
+    /// The same under a name, for runs that take more than one trace.
+    pub fn put_as(&self, name: &str, trace: &[u8]) -> io::Result<PathBuf> {
+        let path = self.folder.join(name);
         fs::write(&path, trace)?;
         Ok(path)
     }
 
     pub fn run(&self, program: &Program, trace: &Path, feed: Feed) -> io::Result<Ran> {
-        let printed = self.folder.join("printed");
-        let said = self.folder.join("said");
-        let mut command = Command::new(&program.words[0]);
-        command
-            .args(&program.words[1..])
-            .stdout(File::create(&printed)?)
-            .stderr(File::create(&said)?)
-            .process_group(0);
+        let mut command = program.command();
+        let mut pieces = None;
         match feed {
             Feed::Named => command.arg(trace).stdin(Stdio::null()),
             Feed::Input => command.stdin(File::open(trace)?),
-            Feed::Pieces => command.stdin(Stdio::piped()),
+            Feed::Pieces => {
+                pieces = Some(fs::read(trace)?);
+                command.stdin(Stdio::piped())
+            }
         };
+        self.finish(program, command, pieces, |status| status.success())
+    }
+
+    /// Runs a program on words of its own. What status it ends with is not
+    /// asked, as long as it ends by itself.
+    pub fn run_on(&self, program: &Program, words: &[&OsStr]) -> io::Result<Ran> {
+        let mut command = program.command();
+        command.args(words).stdin(Stdio::null());
+        self.finish(program, command, None, |status| status.code().is_some())
+    }
+
+    /// Runs a command to its end, with a trace in pieces where there is one.
+    fn finish(
+        &self,
+        program: &Program,
+        mut command: Command,
+        pieces: Option<Vec<u8>>,
+        is_good: fn(ExitStatus) -> bool,
+    ) -> io::Result<Ran> {
+        let printed = self.folder.join("printed");
+        let said = self.folder.join("said");
+        command
+            .stdout(File::create(&printed)?)
+            .stderr(File::create(&said)?)
+            .process_group(0);
         let mut child = command.spawn().map_err(|fault| {
             io::Error::new(fault.kind(), format!("{}: {}", program.words[0], fault))
         })?;
-        let feeder = match child.stdin.take() {
-            None => None,
-            Some(input) => {
-                let bytes = fs::read(trace)?;
-                Some(thread::spawn(move || feed_pieces(&bytes, input)))
-            }
+        let feeder = match (child.stdin.take(), pieces) {
+            (Some(input), Some(bytes)) => Some(thread::spawn(move || feed_pieces(&bytes, input))),
+            _ => None,
         };
         let ended = self.wait(&mut child, &printed)?;
         if let Some(feeder) = feeder {
@@ -134,7 +165,7 @@ impl Watch {
         }
         Ok(Ran {
             lines: fs::read(&printed)?,
-            fault: fault(ended, &fs::read(&said)?),
+            fault: fault(ended, &fs::read(&said)?, is_good),
         })
     }
 
@@ -185,12 +216,16 @@ fn feed_pieces(trace: &[u8], mut input: ChildStdin) {
     }
 }
 
-fn fault(ended: Result<ExitStatus, String>, said: &[u8]) -> Option<String> {
+fn fault(
+    ended: Result<ExitStatus, String>,
+    said: &[u8],
+    is_good: fn(ExitStatus) -> bool,
+) -> Option<String> {
     let status = match ended {
         Err(reason) => return Some(reason),
         Ok(status) => status,
     };
-    if !status.success() {
+    if !is_good(status) {
         return Some(format!("ends with {}{}", status, quoted(said)));
     }
     if !said.is_empty() {

@@ -1,10 +1,11 @@
 //! The self test: document 01's bench numbers and whole case, numbers from
-//! outside it, the clock, flushes, questions, what is told of bad trees, round
-//! trips, and the refusals no trace can reach.
+//! outside it, the clock, flushes, questions, what is told of bad trees, two
+//! traces compared, round trips, and the refusals no trace can reach.
 
 mod clock;
 mod flush;
 mod growth;
+mod pairs;
 mod question;
 mod shares;
 mod trees;
@@ -48,7 +49,7 @@ impl Checks {
 }
 
 /// Fewer checks are no test: a loop over nothing is no success.
-const LEAST: u64 = 6_708;
+const LEAST: u64 = 11_811;
 
 /// A group of checks; a refusal ends it where none belongs.
 type Group = fn(&mut Checks) -> Result<(), Refusal>;
@@ -121,6 +122,9 @@ pub fn run(out: &mut impl Write) -> io::Result<bool> {
     question::noticed(&mut checks)?;
     question::lines(&mut checks)?;
     question::not_followed(&mut checks)?;
+    pairs::examples(&mut checks)?;
+    pairs::laws(&mut checks)?;
+    pairs::changed_meanwhile(&mut checks);
     noticed_faults(&mut checks)?;
     let made = checks.passed + checks.failures.len() as u64;
     if made < LEAST {

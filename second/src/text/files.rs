@@ -75,7 +75,7 @@ impl Write for Output {
 }
 
 /// The same fault, its name before it and the system's number not behind it.
-fn named(name: &str, fault: io::Error) -> io::Error {
+pub fn named(name: &str, fault: io::Error) -> io::Error {
     let said = fault.to_string();
     let said = said.split(" (os error").next().unwrap_or("");
     io::Error::new(fault.kind(), format!("{}: {}", name, said))

@@ -1,7 +1,7 @@
 //! Traces as text: one record a line, its numbers in the record's order.
 
 pub mod assemble;
-mod files;
+pub mod files;
 mod line;
 pub mod list;
 mod terminal;

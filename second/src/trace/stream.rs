@@ -74,6 +74,34 @@ impl<R: Read> Stream<R> {
         }
     }
 
+    /// The bytes of the next record, whose length is the one that its kind is
+    /// said to have, or its refusal 16 or 17; none at the end.
+    pub fn next_bytes(
+        &mut self,
+        length: impl Fn(u8) -> Result<usize, Refusal>,
+    ) -> io::Result<Option<Result<&[u8], Refusal>>> {
+        if self.last - self.first < LONGEST {
+            self.fill()?;
+        }
+        let first = self.first;
+        let length = match self.next_kind().map(length) {
+            None => return Ok(None),
+            Some(Err(refusal)) => return Ok(Some(Err(refusal))),
+            Some(Ok(length)) => length,
+        };
+        if self.last - first < length {
+            return Ok(Some(Err(Refusal::CutRecord)));
+        }
+        self.place += length as u64;
+        self.first += length;
+        Ok(Some(Ok(&self.window[first..self.first])))
+    }
+
+    /// How many bytes were read and not yet handed out.
+    pub fn held(&self) -> u64 {
+        (self.last - self.first) as u64
+    }
+
     /// The kind byte at the place. After a refusal that is the byte refused.
     pub fn next_kind(&self) -> Option<u8> {
         self.window[self.first..self.last].first().copied()
