@@ -27,7 +27,7 @@ fn error_of(first: &[u8], second: &[u8]) -> Error
 }
 
 // Which trace ends first, by the step at which the walk ended.
-fn ends_by(s: Step, number: usize) -> Ends
+pub fn ends_by(s: Step, number: usize) -> Ends
     ensures { λ r. ⌜ r ≡ endsBy s number ⌝ }
 {
     match s {
@@ -58,7 +58,7 @@ fn equal_if(alike: bool) -> Likeness
     Likeness::Different
 }
 
-fn likeness_by(s: Step, alike: bool) -> Likeness
+pub fn likeness_by(s: Step, alike: bool) -> Likeness
     ensures { λ r. ⌜ r ≡ likenessBy s alike ⌝ }
 {
     match s {

@@ -62,7 +62,7 @@ pub fn step(first: &[u8], p: usize, second: &[u8], q: usize) -> Step
     }
 }
 
-fn is_pair(s: Step) -> bool
+pub fn is_pair(s: Step) -> bool
     ensures { λ r. ⌜ r ≡ isPair s ⌝ }
 {
     match s {

@@ -63,5 +63,5 @@ cases =
     ∷ []
 
 pub bench : allSame cases ≡ true
-unfolding cases nameOf fieldsOf digits digitsIn endsLine restLine likenessLine errorLine differenceLine
+unfolding cases nameOf fieldsOf digits digitsIn differsLine endsLine restLine likenessLine errorLine differenceLine
 bench = refl

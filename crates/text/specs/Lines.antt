@@ -20,7 +20,7 @@ abbrev pub wordLine : List ℕ → List ℕ → List ℕ
 wordLine word ns = worded word ns ++ bytes "\n"
 
 -- ---- lines to read: a record that differs by its number, the place where it begins in each trace, and what each has there
-abbrev pub differsLine : ℕ → ℕ → ℕ → Record → Record → List ℕ
+unfoldable pub differsLine : ℕ → ℕ → ℕ → Record → Record → List ℕ
 differsLine n first second r s =
     worded (bytes "differs") (n ∷ first ∷ second ∷ []) ++ (bytes " " ++ recordText r) ++ (bytes " | " ++ recordText s) ++ bytes "\n"
 

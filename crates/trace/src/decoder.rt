@@ -64,7 +64,7 @@ fn bio_at(trace: &[u8], body: usize) -> Bio
 }
 
 // The record of a known kind whose body is whole.
-fn record_at(trace: &[u8], body: usize, kind: u8) -> Record
+pub fn record_at(trace: &[u8], body: usize, kind: u8) -> Record
     requires { ⌜ (isKind kind ≡ true) × (body + total (layout kind) ≤ length (now trace)) ⌝ }
     ensures { λ r. ⌜ r ≡ recordOf kind (fieldsAt kind body (now (trace .entry))) ⌝ }
 {

@@ -24,6 +24,7 @@ done-at : (c : tie.After-slice-known4) →
     Stands (differsLine (a .number) (a .first) (a .second) (a .r) (a .s)) (now (a .out))
     (set (putBack (putBack (head .put-worded .last .1 .1 .0) (head .put-worded .result) (left .put-before .last .1 .1 .0)) middle (right .put-before2 .last .1 .1 .0)) end 10) (end + 1)
     × (end + 1 ≤ differsRoom)
+unfolding differsLine
 done-at c =
     let right = c .before .before in
     let left = right .before .before .before .before .before in
