@@ -13,7 +13,7 @@ use crate::both::step;
 use crate::both::walk;
 use crate::one::error_in;
 ghost use mathlib.Core.Path.{_≡_};
-ghost use Rattle.comparison.specs.Compare.{errorOf, endsBy, equalIf, prefixIf, likenessBy, concluded, troubled, compared, longerBy, longerOf, restOf};
+ghost use Rattle.comparison.specs.Compare.{errorOf, endsBy, equalIf, prefixIf, likenessBy, concluded, troubled, compared, longerBy, restOf};
 
 // The first trace's error before the second's.
 fn error_of(first: &[u8], second: &[u8]) -> Error
@@ -120,11 +120,9 @@ fn longer_by(ends: Ends) -> Longer
     }
 }
 
-pub fn longer(c: Comparison) -> Longer
-    ensures { λ r. ⌜ r ≡ longerOf c ⌝ }
+pub fn longer_of(likeness: Likeness, ends: Ends) -> Longer
+    ensures { λ r. ⌜ r ≡ longerBy likeness ends ⌝ }
 {
-    let likeness = c.likeness;
-    let ends = c.ends;
     match likeness {
         Likeness::Prefix => longer_by(ends),
         Likeness::Equal => Longer::Neither,
@@ -137,7 +135,10 @@ pub fn longer(c: Comparison) -> Longer
 pub fn rest<'a>(first: &'a [u8], second: &'a [u8]) -> &'a [u8]
     ensures { λ r. ⌜ now r ≡ restOf (now (first .entry)) (now (second .entry)) ⌝ }
 {
-    match longer(compare(first, second, 0)) {
+    let c = compare(first, second, 0);
+    let likeness = c.likeness;
+    let ends = c.ends;
+    match longer_of(likeness, ends) {
         Longer::First => &first[second.len()..],
         Longer::Second => &second[first.len()..],
         Longer::Neither => &first[first.len()..],

@@ -31,6 +31,12 @@ pub record WholeHere (part : List ℕ) (at kind : ℕ) : Type 0 where
   pub known : isKind kind ≡ true
   pub inside : endAt part at ≤ length part
 
+abbrev pub atTheFront : Begins
+atTheFront = record { first = 0; second = 0 }
+
+abbrev pub atStart : Reach
+atStart = record { number = 0; first = 0; second = 0; alike = true }
+
 -- ---- one pair
 -- "One line for each record that differs: its number, the byte places on both sides, both records"
 unfoldable pub differsAt : Begins → List ℕ → List ℕ → Reach → List ℕ
@@ -96,3 +102,37 @@ pub record Lists (b : Begins) (here there : List ℕ) (r₀ : Reach) (l : Listed
   pub lines : Written (listed b here there (length o₀) r₀ .bytes) (l .count) o₀ o
   pub fits : l .count ≤ length o
   pub holds : Holds b here there (l .reach)
+
+-- ---- behind the last pair
+-- "`rest SIDE BYTES` is `rest first 0` unless one trace is a prefix of the other": so many bytes are left of each trace
+unfoldable pub restLineBy : Longer → ℕ → ℕ → List ℕ
+restLineBy LongerFirst first second = restLine First first
+restLineBy LongerSecond first second = restLine Second second
+restLineBy NoLonger first second = restLine First 0
+
+unfoldable pub closingLines : Likeness → Ends → ℕ → ℕ → List ℕ
+closingLines l e first second = (endsLine e ++ restLineBy (longerBy l e) first second) ++ likenessLine l
+
+abbrev pub closingBy : Step → ℕ → Bool → ℕ → ℕ → List ℕ
+closingBy s number alike first second = closingLines (likenessBy s alike) (endsBy s number) first second
+
+abbrev pub closingRoom : ℕ
+closingRoom = 3 * shortRoom
+
+-- ---- the whole: what a program prints of two traces
+-- the lines of the records that differ, from here on
+unfoldable pub differsFrom : ℕ → List ℕ → List ℕ → Reach → List ℕ
+differsFrom zero first second r = []
+differsFrom (suc more) first second r =
+    cond (isPair (stepIn first second r))
+    (lineBy atTheFront first second (stepIn first second r) r ++ differsFrom more first second (advanced (stepIn first second r) r))
+    []
+
+abbrev pub reportBy : Error → List ℕ → List ℕ → Comparison → List ℕ
+reportBy (ErrorAt side x at) first second c = errorLine side x at
+reportBy NoError first second c =
+    differsFrom (suc (length first)) first second atStart
+    ++ closingLines (c .likeness) (c .ends) (length (restOf first second)) (length (restOf first second))
+
+unfoldable pub report : List ℕ → List ℕ → List ℕ
+report first second = reportBy (errorOf first second) first second (compared first second 0)

@@ -6,7 +6,7 @@ use Prim.Native.Nat.{ℕ, _-_}
 use native.Mathlib.Omega.{arith}
 use lib.ListN.{length, take, drop, length-drop}
 use lib.Seq.{take-all}
-use Rattle.comparison.specs.Compare.{compared, longerOf, restBy, restOf}
+use Rattle.comparison.specs.Compare.{compared, longerBy, longerOf, restBy, restOf}
 use Rattle.comparison.specs.Theorems.{the-longer-is-longer}
 use Rattle.comparison.specs.declared.Comparison.{Comparison}
 use Rattle.comparison.specs.declared.Longer.{Longer}
@@ -16,9 +16,9 @@ use Rattle.comparison.proofs.answer.rest.Tie as tie
 use Rattle.comparison.proofs.answer.rest.Reads as reads
 use Rattle.comparison.proofs.answer.rest.Lts as lts
 use Rattle.comparison.proofs.answer.compare.Reads as compare-reads
-use Rattle.comparison.proofs.answer.longer.Reads as longer-reads
+use Rattle.comparison.proofs.answer.longer_of.Reads as longer-of-reads
 
-module _ (first second : List ℕ) (c : Comparison) (x y : Longer) (here : c ≡ compared first second 0) (told : x ≡ longerOf c) (is : x ≡ y) where
+module _ (first second : List ℕ) (c : Comparison) (x y : Longer) (here : c ≡ compared first second 0) (told : x ≡ longerBy (c .likeness) (c .ends)) (is : x ≡ y) where
   longer-told : longerOf (compared first second 0) ≡ y
   longer-told = sym (ap longerOf here) ∙ sym told ∙ is
 
@@ -35,8 +35,8 @@ compare-requires : tie.Need-compare-requires
 compare-requires c κs = search needs
 
 -- src/answer.rt:140:11
-longer-requires : tie.Need-longer-requires
-longer-requires c κs = search needs
+longer-of-requires : tie.Need-longer-of-requires
+longer-of-requires c κs = search needs
 
 -- src/answer.rt:141:33
 enum-told : tie.Need-enum-told
@@ -44,7 +44,7 @@ enum-told c = search needs
 
 -- src/answer.rt:141:26
 sub-result : tie.Need-sub-result
-sub-result c = the-longer-is-longer _ _ .1 (longer-told _ _ _ _ _ (c .before .before .before .compare .ensures) (c .before .before .longer .ensures) (c .enum-told .given .1))
+sub-result c = the-longer-is-longer _ _ .1 (longer-told _ _ _ _ _ (c .before .before .before .compare .ensures) (c .before .before .longer-of .ensures) (c .enum-told .given .1))
 
 -- src/answer.rt:141:26
 part-result-start : tie.Need-part-result-start
@@ -60,7 +60,7 @@ enum-told-2 c = search needs
 
 -- src/answer.rt:142:27
 sub-result-2 : tie.Need-sub-result-2
-sub-result-2 c = the-longer-is-longer _ _ .0 (longer-told _ _ _ _ _ (c .before .before .before .compare .ensures) (c .before .before .longer .ensures) (c .enum-told2 .given .1))
+sub-result-2 c = the-longer-is-longer _ _ .0 (longer-told _ _ _ _ _ (c .before .before .before .compare .ensures) (c .before .before .longer-of .ensures) (c .enum-told2 .given .1))
 
 -- src/answer.rt:142:27
 part-result-start-2 : tie.Need-part-result-start-2
@@ -90,26 +90,26 @@ part-result-end-3 c = search needs
 returns : tie.Need-returns
 returns c =
     let start = c .before .before .before .before .before .before .before in
-    all-behind (length (start .args .second .now)) (start .args .first .now) ∙ rest-told _ _ _ _ _ (c .before .before .before .before .compare .ensures) (c .before .before .before .longer .ensures) (c .before .enum-told .given .1)
+    all-behind (length (start .args .second .now)) (start .args .first .now) ∙ rest-told _ _ _ _ _ (c .before .before .before .before .compare .ensures) (c .before .before .before .longer-of .ensures) (c .before .enum-told .given .1)
 
 -- src/answer.rt:137:1
 returns-2 : tie.Need-returns-2
 returns-2 c =
     let start = c .before .before .before .before .before .before .before in
-    all-behind (length (start .args .first .now)) (start .args .second .now) ∙ rest-told _ _ _ _ _ (c .before .before .before .before .compare .ensures) (c .before .before .before .longer .ensures) (c .before .enum-told2 .given .1)
+    all-behind (length (start .args .first .now)) (start .args .second .now) ∙ rest-told _ _ _ _ _ (c .before .before .before .before .compare .ensures) (c .before .before .before .longer-of .ensures) (c .before .enum-told2 .given .1)
 
 -- src/answer.rt:137:1
 returns-3 : tie.Need-returns-3
 returns-3 c =
     let start = c .before .before .before .before .before .before .before in
-    all-behind (length (start .args .first .now)) (start .args .first .now) ∙ rest-told _ _ _ _ _ (c .before .before .before .before .compare .ensures) (c .before .before .before .longer .ensures) (c .before .enum-told3 .given .1)
+    all-behind (length (start .args .first .now)) (start .args .first .now) ∙ rest-told _ _ _ _ _ (c .before .before .before .before .compare .ensures) (c .before .before .before .longer-of .ensures) (c .before .enum-told3 .given .1)
 
 pub rest-spec : {M : Type 1} → statement M
 rest-spec =
     tie.close
     (tie.spec
     compare-requires
-    longer-requires
+    longer-of-requires
     enum-told
     sub-result
     part-result-start
