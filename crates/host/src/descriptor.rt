@@ -1,7 +1,7 @@
 // Bytes to and from a descriptor. A call moves nothing where a signal breaks it off, or where the descriptor does not wait
 // and is not ready yet. It is then made again, so that no byte is lost to a slow reader. Any other failure is for the caller
 // to say, and errno tells which it was.
-ghost use Prim.Native.Nat.{_≤_};
+ghost use Prim.Native.Nat.{_+_, _^_, _≤_, _<_};
 ghost use lib.ListN.{length};
 use libc::EAGAIN;
 use libc::EINTR;
@@ -44,8 +44,8 @@ pub fn read(fd: i32, buf: &mut [u8]) -> Got
     }
 }
 
-// Bytes of the file from an offset on, whatever was read of it before: what lies beyond the end is not there.
-pub fn read_at(fd: i32, offset: i64, buf: &mut [u8]) -> Got
+// Bytes of a file from an offset on, whatever was read of it before.
+fn read_at(fd: i32, offset: i64, buf: &mut [u8]) -> Got
     ensures { λ r. ⌜ r .count ≤ length (now (buf .exit)) ⌝ }
 {
     let mut got = libc::pread(fd, buf, offset);
@@ -57,6 +57,45 @@ pub fn read_at(fd: i32, offset: i64, buf: &mut [u8]) -> Got
     Got {
         count: io::count(got, buf),
         failed: got < 0,
+    }
+}
+
+// What was filled of a buffer, and whether the file ends there.
+pub struct Filled {
+    pub count: usize,
+    pub ended: bool,
+    pub failed: bool,
+}
+
+// Fills the buffer with the bytes of a file from an offset on. A read may bring fewer than it could, so only one that brings
+// nothing is the end.
+pub fn fill_at(fd: i32, offset: usize, buf: &mut [u8]) -> Filled
+    requires { ⌜ offset + length (now buf) < 2 ^ 63 ⌝ }
+    ensures { λ r. ⌜ r .count ≤ length (now (buf .exit)) ⌝ }
+{
+    let mut done: usize = 0;
+    while done < buf.len() {
+        let got = read_at(fd, (offset + done) as i64, &mut buf[done..]);
+        if got.failed {
+            return Filled {
+                count: done,
+                ended: false,
+                failed: true,
+            };
+        }
+        if got.count == 0 {
+            return Filled {
+                count: done,
+                ended: true,
+                failed: false,
+            };
+        }
+        done += got.count;
+    }
+    Filled {
+        count: done,
+        ended: false,
+        failed: false,
     }
 }
 

@@ -1,0 +1,8 @@
+// Compares.
+mod differences;
+mod errors;
+mod said;
+mod side;
+
+fn main() {
+}
