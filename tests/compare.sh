@@ -208,7 +208,7 @@ is "./compare: help that cannot be written" [ $? -eq 2 ]
 "$second" gen 2 200000 few >long.other
 "$second" pair long long.other >long.lines
 cp long long.copy
-"$second" text long | head -n 10000 | tee some.text | "$second" bytes >some
+"$second" text long | head -n 5000 | tee some.text | "$second" bytes >some
 sed 's/^\(bio [0-9]* [0-9]*\) [0-9]*/\1 7/' some.text | "$second" bytes >some.other
 "$second" pair some some.other >some.lines
 is "the long traces have 3 MB each" [ "$(wc -c <long)" -gt 3000000 -a "$(wc -c <long.other)" -gt 3000000 ]
@@ -216,7 +216,7 @@ is "and differ nearly everywhere" [ "$(grep -c '^differs ' long.lines)" -gt 1990
 compared "3 MB with 200,000 differences" long.lines 1 other long long.other
 run long long.copy
 is "3 MB that are equal" [ "$status $(tail -n 1 out) $(wc -c <err)" = "0 equal 0" ]
-compared "10,000 records that differ in their ids" some.lines 1 other some some.other
+compared "5,000 records that differ in their ids" some.lines 1 other some some.other
 
 # ---- readers
 for reader in slowly 'dd bs=113 status=none'; do
