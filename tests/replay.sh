@@ -8,6 +8,7 @@ set -uo pipefail
 export LC_ALL=C
 here=$(cd "$(dirname "$0")" && pwd -P)
 top=$(dirname "$here")
+crate=replay
 whole=$top/crates/replay/data/whole-case.trace
 binary=$(readlink -f "${1:?usage: tests/replay.sh BINARY [SECOND]}")
 [ "$binary" != "$top/replay" ] || binary=$top/target/bin/replay
@@ -18,58 +19,16 @@ work=$(mktemp -d) || exit 1
 trap 'rm -rf "$work"' EXIT
 cd "$work" || exit 1
 
-limit=30
-memory=32768 # KiB of addresses: what it may take, however long the trace is
-# An emulator takes memory for itself, and time.
-if [ "$(uname -m)" != x86_64 ]; then
-    limit=600
-    memory=524288
-fi
 hint='(name a trace file, or none to read standard input)'
 full='replay: cannot write standard output (make room there, or send it elsewhere)'
 due=207
 
-# Makes a folder as a clone has it, with ./replay: FOLDER.
-clone() {
-    mkdir -p "$1/tools" "$1/crates/a/src" || exit 1
-    cp "$top/replay" "$1/replay" && cp "$top/tools/program" "$1/tools/program" || exit 1
-    printf '# one line for each\na:\nb: a io # and no more\nother: a\nreplay: a b os\n' >"$1/crates.txt"
-    : >"$1/crates/a/src/lib.rt"
-}
+settle "$binary"
 
-# A folder in which the program is built, and the words that run the program without the script.
-clone home
-mkdir -p home/target/bin home/target/stamp
-cp "$binary" home/target/bin/replay || exit 1
-: >home/target/stamp/replay
-wrapper=$work/home/replay
-mapfile -d '' -t tested < <(
-    crate=replay
-    source home/tools/program
-    find_runner
-    printf '%s\0' "${runner[@]}"
-)
-
-# Runs the program on its arguments within the limits; what it wrote is in out and err, and how it ended in status.
-run() {
-    (ulimit -v "$memory" && exec timeout "$limit" "${tested[@]}" "$@") >out 2>err
-    status=$?
-}
-
-# Runs ./replay likewise.
-replay() {
-    timeout "$limit" "$wrapper" "$@" >out 2>err
-    status=$?
-}
+replay() { run_script "$@"; }
 
 # It ended, wrote the file's lines, and said nothing.
 wrote() { [ "$status" -eq 0 ] && cmp -s out "$1" && [ ! -s err ]; }
-
-# It ended, and said one line, which is the given one.
-said() { [ "$status" -eq 0 ] && [ "$(wc -l <err)" -eq 1 ] && [ "$(cat err)" = "$1" ]; }
-
-# It ended, wrote nothing, and said the one line.
-only_said() { [ ! -s out ] && said "$1"; }
 
 # It failed, wrote nothing, and said one line.
 failed_saying() { [ "$status" -eq 1 ] && [ ! -s out ] && [ "$(wc -l <err)" -eq 1 ] && [ "$(cat err)" = "$1" ]; }
@@ -245,7 +204,6 @@ run < <(yes)
 is "an endless input is read no further" stopped
 
 # ---- readers
-slowly() { sleep 1; while IFS= read -r line; do printf '%s\n' "$line"; done; }
 timeout "$limit" "${tested[@]}" many 2>err | slowly >out
 status=${PIPESTATUS[0]}
 is "a slow reader gets every line" wrote many.lines
@@ -275,14 +233,10 @@ run <sub
 is "standard input is a directory" only_said "replay: cannot read standard input $hint: Is a directory"
 cp whole secret
 chmod 000 secret
-nobody='setpriv --reuid=65534 --regid=65534 --clear-groups'
 locked="replay: cannot read 'secret' (make it readable): Permission denied"
 chmod -R go+rX . && chmod 000 secret
-if [ "$(id -u)" -ne 0 ]; then
-    run secret
-    is "a file that may not be read" only_said "$locked"
-elif $nobody "${tested[@]}" nothing 2>err && [ ! -s err ]; then
-    $nobody timeout "$limit" "${tested[@]}" secret >out 2>err
+if find_other nothing; then
+    "${as[@]}" timeout "$limit" "${tested[@]}" secret >out 2>err
     status=$?
     is "a file that may not be read" only_said "$locked"
 else
@@ -299,7 +253,6 @@ status=$?
 is "standard output is closed" said "$full: Bad file descriptor"
 
 # ---- the mark of a run that ended well: on descriptor 3 where it is asked for, and nowhere unasked
-marked() { [ "$status" -eq 0 ] && [ "$(cat mark)" = "$1" ]; }
 run whole 3>mark
 is "nothing is marked unasked" marked ''
 run --report whole 3>mark
@@ -391,9 +344,7 @@ is "./replay: a reader that is gone, where that ends no program" [ "$(cat ended)
 # ---- ./replay: descriptors
 "$wrapper" long 2>err | head -n 1 >out
 status=${PIPESTATUS[0]}
-yes | head -n 1 >yes.out
-if [ "${PIPESTATUS[0]}" -eq 141 ]; then ends=(141); else ends=(1 141); fi # where the system ends no program for it, the write fails
-is "./replay: a reader that leaves ends it as any program" grep -qxF "$status" <(printf '%s\n' "${ends[@]}")
+is "./replay: a reader that leaves ends it as any program" grep -qxF "$status" <(gone 1)
 is "./replay: and it had its line" [ "$(cat out)" = "D 0" ]
 "$wrapper" many 2>err | slowly >out
 status=${PIPESTATUS[0]}
@@ -529,11 +480,6 @@ export PATH=${PATH#*:}
 wrapper=$work/home/replay
 
 # ---- settings that a shell cannot make: terminals, and pipes that do not wait
-emptied() { [ "$(tail -c $(($1 + 2)) err | tr ' \r' 's.')" = ".$(printf "%$1s" '' | tr ' ' s)." ]; }
-setting() { # WORDS..
-    timeout "$limit" ./setting "$@" >out 2>err
-    status=$?
-}
 if command -v rustc >which 2>&1; then
     rustc -O --edition 2021 "$here/setting.rs" -o setting || exit 1
     { sleep 0.3; cat many; } | ./setting nonblocking timeout "$limit" "${tested[@]}" 2>err | { sleep 0.5; cat; } >out
@@ -584,12 +530,6 @@ fi
 # ---- calls that are cut short or broken off
 if [ "$(uname -m)" = x86_64 ] && command -v rustc >which 2>&1; then
     rustc -O --edition 2021 --crate-type cdylib "$here/faults.rs" -o faults.so || exit 1
-    faulty() { # FAULTS ARGUMENTS..
-        local plan=$1
-        shift
-        FAULTS=$plan LD_PRELOAD=$work/faults.so timeout "$limit" "${tested[@]}" --report "$@" >out 2>err 3>mark
-        status=$?
-    }
     for plan in short "intr ok" "again ok" "intr again intr again short ok" "again intr short again intr short intr intr again ok"; do
         faulty "$plan" whole
         is "calls that go: $plan" wrote whole.lines
