@@ -1,0 +1,4 @@
+pub mod Decimal
+pub mod Held
+pub mod Answer
+pub mod Bench
