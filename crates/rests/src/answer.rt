@@ -1,14 +1,18 @@
 // The answer as lines: what is proved is which bytes stand at the front of the line buffer, for two traces and a number, and
-// for a record. No contract can say which bytes a write takes, nor that the records of the rest are printed in their order: that
-// is for a person to read, in the last two functions.
+// for a record, and that the records of the rest are followed to its end unless a write fails. No contract can say which bytes
+// a write takes: that the lines are written in this order is for a person to read, in the last two functions.
+ghost use mathlib.Core.Path.{_≡_};
+ghost use mathlib.Core.Bool.{false};
 ghost use Prim.Native.Nat.{_+_, _*_, _≤_, _<_};
 ghost use lib.ListN.{length};
 ghost use Rattle.rules.specs.Buffers.{Written};
+ghost use Rattle.comparison.specs.Compare.{errorIn};
 ghost use Rattle.text.specs.Text.{textRoom};
 ghost use Rattle.text.specs.Lines.{shortRoom};
-ghost use Rattle.rests.specs.Answer.{toldLines, foundLines, answerLines, recordLine};
+ghost use Rattle.rests.specs.Answer.{toldLines, foundLines, answerLines, recordLine, AtEnd};
 use comparison::Comparison;
 use comparison::Error;
+use comparison::Side;
 use comparison::answer::compare;
 use comparison::answer::rest;
 use host::descriptor::write;
@@ -22,6 +26,12 @@ use text::put_likeness;
 use text::put_record;
 use text::put_rest_length;
 use trace::decoder::read_at;
+
+// Where the records stopped: at their end, or where a line was not taken.
+pub(crate) struct Stop {
+    pub place: usize,
+    pub unwritten: bool,
+}
 
 // The first difference, who ends first, and how alike the traces are.
 fn put_told(c: Comparison, out: &mut [u8]) -> usize
@@ -74,20 +84,36 @@ fn is_written(lines: &[u8]) -> bool {
     write(STDOUT_FILENO, lines) == lines.len()
 }
 
-// Each record, to where no record stands any more: that is the end, since the rest of a trace without errors has none.
-fn tell_records(records: &[u8], out: &mut [u8]) -> bool
-    requires { ⌜ textRoom < length (now out) ⌝ }
+fn ended(place: usize) -> Stop
+    ensures { λ r. ⌜ (r .place ≡ place) × (r .unwritten ≡ false) ⌝ }
+{
+    Stop {
+        place,
+        unwritten: false,
+    }
+}
+
+// Each record, from the first on.
+fn tell_records(records: &[u8], out: &mut [u8]) -> Stop
+    requires { ⌜ (errorIn Side.First (now records) ≡ Error.Nothing) × (textRoom < length (now out)) ⌝ }
+    ensures { λ r. ⌜ AtEnd (now (records .entry)) r ⌝ }
 {
     let mut at: usize = 0;
     loop {
-        let Read::Found(r, next) = read_at(records, at) else {
-            return true;
-        };
-        let count = put_line(r, out);
-        if !is_written(&out[0..count]) {
-            return false;
+        match read_at(records, at) {
+            Read::Found(r, next) => {
+                let count = put_line(r, out);
+                if !is_written(&out[0..count]) {
+                    return Stop {
+                        place: at,
+                        unwritten: true,
+                    };
+                }
+                at = next;
+            }
+            Read::End => return ended(at),
+            Read::Refused(_) => return ended(at),
         }
-        at = next;
     }
 }
 
@@ -98,5 +124,6 @@ pub(crate) fn tell<'a>(first: &'a [u8], second: &'a [u8], from: usize) -> bool {
     if !is_written(&out[0..count]) {
         return false;
     }
-    tell_records(rest(first, second), &mut out)
+    let told = tell_records(rest(first, second), &mut out);
+    !told.unwritten
 }
