@@ -13,7 +13,8 @@ use Rattle.listing.specs.declared.Listed.{Listed}
 use Rattle.compare.specs.Parts.{Inside, part, OneScan}
 use Rattle.compare.specs.Parts.OneScan.{unread, scanned}
 use Rattle.compare.specs.declared.errors.Scan.{Scan}
-use Rattle.compare.specs.Rounds.{Stands, beginsOf, reachOf, linesOf, Told, reachedBy, endedBy, ReadOn, FirstMore, SecondMore}
+use Rattle.compare.specs.Rounds.{Stands, beginsOf, reachOf, linesOf, Told, reachedBy, endedBy, ReadOn, FirstMore, SecondMore, OneRound, Fresh}
+use Rattle.compare.specs.Rounds.OneRound.{wrote, unwritten}
 use Rattle.compare.specs.Rounds.FirstMore.{read-on as first-on, unread as first-unread}
 use Rattle.compare.specs.Rounds.SecondMore.{read-on as second-on, unread as second-unread}
 use Rattle.compare.specs.declared.side.Held.{Held}
@@ -77,3 +78,16 @@ second-stands {s} v e (second-unread f) = rw (f, e) (record { first-inside = v .
 pub scan-inside : {s r : Scan} {buf : List ℕ} → OneScan s r buf → Inside (r .held) (length buf)
 scan-inside (unread i e) = i
 scan-inside (scanned h f e v) = v .inside
+
+-- ---- a walk that begins, and one after a round
+pub fresh-stands : {s : Standing} → Fresh s → Stands s 65536 65536
+fresh-stands {s} f =
+    let first : Inside (s .first) 65536 =
+    record { passed = omega (arith, f .first-place); filled = omega (arith, f .first-filled); near = omega (arith, f .first-base); small = omega arith } in
+    let second : Inside (s .second) 65536 =
+    record { passed = omega (arith, f .second-place); filled = omega (arith, f .second-filled); near = omega (arith, f .second-base); small = omega arith } in
+    record { first-inside = first; second-inside = second; few = omega (arith, f .number) }
+
+pub round-stands : {s : Standing} {a b : List ℕ} {room : ℕ} {r : Standing} {a₁ b₁ : List ℕ} → OneRound s a b room r a₁ b₁ → Stands r (length a₁) (length b₁)
+round-stands (wrote on) = on .stands
+round-stands (unwritten v goes end) = v

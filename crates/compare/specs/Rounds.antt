@@ -96,3 +96,14 @@ pub record Onward (s : Standing) (a b : List ℕ) (r : Standing) (a₁ b₁ : Li
 pub data OneRound (s : Standing) (a b : List ℕ) (room : ℕ) (r : Standing) (a₁ b₁ : List ℕ) : Type 0 where
   wrote : Onward (reachedBy (linesOf s a b room .reach) (length (linesOf s a b room .bytes)) s) a b r a₁ b₁ → OneRound s a b room r a₁ b₁
   unwritten : Stands r (length a₁) (length b₁) → r .going ≡ false → r .end ≡ Unwritten → OneRound s a b room r a₁ b₁
+
+-- ---- a walk that begins
+pub record Fresh (s : Standing) : Type 0 where
+  pub first-base : s .first .base ≡ 0
+  pub first-filled : s .first .filled ≡ 0
+  pub first-place : s .first .place ≡ 0
+  pub second-base : s .second .base ≡ 0
+  pub second-filled : s .second .filled ≡ 0
+  pub second-place : s .second .place ≡ 0
+  pub number : s .number ≡ 0
+  pub alike : s .alike ≡ true

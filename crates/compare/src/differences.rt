@@ -6,22 +6,32 @@
 // takes or a read brings.
 ghost use mathlib.Core.Path.{_≡_};
 ghost use mathlib.Core.Bool.{true};
+ghost use Prim.Native.Nat.{_≤_};
 ghost use lib.ListN.{length};
+ghost use Rattle.listing.specs.Listing.{closingRoom};
 ghost use Rattle.compare.specs.Parts.{Inside};
-ghost use Rattle.compare.specs.Rounds.{Stands, endedBy, beginsOf, reachOf, reachedBy, wantsMore, stepHeld, Told, FirstMore, SecondMore, Onward, OneRound};
+ghost use Rattle.compare.specs.Rounds.{Stands, endedBy, beginsOf, reachOf, reachedBy, wantsMore, stepHeld, Told, FirstMore, SecondMore, Onward, OneRound, Fresh};
+use crate::said::progress;
 use crate::side::Held;
+use crate::side::begun;
 use crate::side::passed;
 use crate::side::refill;
 use crate::side::wants_bytes;
+use comparison::Likeness;
 use comparison::Step;
+use comparison::answer::likeness_by;
 use comparison::both::is_pair;
 use comparison::both::step;
 use comparison::one::extent;
+use host::descriptor::TRIES;
 use host::descriptor::write;
+use host::said::no_progress;
 use libc::STDOUT_FILENO;
 use listing::Begins;
+use listing::Left;
 use listing::Listed;
 use listing::Reach;
+use listing::close;
 use listing::list;
 
 // Why a walk is over: both sides are at an end of theirs, or something failed.
@@ -30,6 +40,12 @@ pub(crate) enum End {
     FirstUnread,
     SecondUnread,
     Unwritten,
+}
+
+// Whether a person watches, and how many bytes the first walk read.
+pub(crate) struct Watch {
+    pub watched: bool,
+    pub seen: u64,
 }
 
 // Where a walk stands: what is held of each side, how many pairs are passed, whether all of them were the same, and how many
@@ -194,13 +210,29 @@ fn onward(s: Standing, a: &mut [u8], b: &mut [u8]) -> Standing
     ended(s, End::Over)
 }
 
+// How many bytes were read so far, with those of the first walk: what a person at a terminal is shown.
+fn total(s: Standing, seen: u64) -> u64 {
+    let first = s.first;
+    let second = s.second;
+    let both = std::num::wrapping_add_u64(first.base as u64, second.base as u64);
+    std::num::wrapping_add_u64(seen, both)
+}
+
+// Progress is cleared from a terminal before lines are written.
+fn cleared(count: usize, s: Standing, watch: Watch) {
+    if watch.watched & (0 < count) {
+        no_progress(total(s, watch.seen));
+    }
+}
+
 // One round: the lines of what is held are written, and more is read.
-fn round(s: Standing, a: &mut [u8], b: &mut [u8], out: &mut [u8]) -> Standing
+fn round(s: Standing, watch: Watch, a: &mut [u8], b: &mut [u8], out: &mut [u8]) -> Standing
     requires { ⌜ Stands s (length (now a)) (length (now b)) ⌝ }
     ensures { λ r. ⌜ OneRound s (now (a .entry)) (now (b .entry)) (length (now (out .entry))) r (now (a .exit)) (now (b .exit)) ⌝ }
 {
     let listed = told(s, a, b, out);
     let count = listed.count;
+    cleared(count, s, watch);
     let put = write(STDOUT_FILENO, &out[0..count]);
     let r = listed.reach;
     let after = reached(s, r, put);
@@ -208,4 +240,114 @@ fn round(s: Standing, a: &mut [u8], b: &mut [u8], out: &mut [u8]) -> Standing
         return ended(after, End::Unwritten);
     }
     onward(after, a, b)
+}
+
+fn fresh(first: i32, second: i32) -> Standing
+    ensures { λ s. ⌜ Fresh s ⌝ }
+{
+    Standing {
+        first: begun(first),
+        second: begun(second),
+        number: 0,
+        alike: true,
+        put: 0,
+        going: true,
+        end: End::Over,
+    }
+}
+
+// How many bytes each trace has, by the first walk.
+pub(crate) struct Lengths {
+    pub first: usize,
+    pub second: usize,
+}
+
+// Does the walk end where the first walk did? A trace that was written to meanwhile may end elsewhere, or have an error.
+fn is_unchanged(s: Step, p: usize, q: usize, lengths: Lengths) -> bool
+    ensures { λ r. ⌜ (r ≡ true → (p ≤ lengths .first) × (q ≤ lengths .second)) ⌝ }
+{
+    if lengths.first < p {
+        return false;
+    }
+    if lengths.second < q {
+        return false;
+    }
+    match s {
+        Step::Same(_, _) => false,
+        Step::Differs(_, _, _, _) => false,
+        Step::FirstEnds => p == lengths.first,
+        Step::SecondEnds => q == lengths.second,
+        Step::BothEnd => (p == lengths.first) & (q == lengths.second),
+        Step::Refused(_, _) => false,
+    }
+}
+
+// What came of a comparison; a trace that has an error is not compared.
+pub(crate) enum Outcome {
+    Equal,
+    Other,
+    FirstUnread,
+    SecondUnread,
+    Unwritten,
+    Changed,
+    Erred,
+}
+
+fn outcome_of(likeness: Likeness) -> Outcome {
+    match likeness {
+        Likeness::Equal => Outcome::Equal,
+        Likeness::Prefix => Outcome::Other,
+        Likeness::Different => Outcome::Other,
+        Likeness::Untold => Outcome::Changed,
+    }
+}
+
+// The lines that close a walk.
+fn closed(s: Standing, lengths: Lengths, a: &[u8], b: &[u8], out: &mut [u8]) -> Outcome
+    requires { ⌜ Stands s (length (now a)) (length (now b)) × (closingRoom ≤ length (now out)) ⌝ }
+{
+    let at = step_at(s, a, b);
+    let first = s.first;
+    let second = s.second;
+    let p = first.base + first.place;
+    let q = second.base + second.place;
+    if !is_unchanged(at, p, q, lengths) {
+        return Outcome::Changed;
+    }
+    let left = Left {
+        first: (lengths.first - p) as u64,
+        second: (lengths.second - q) as u64,
+    };
+    let count = close(at, reach(s), left, out);
+    let put = write(STDOUT_FILENO, &out[0..count]);
+    if put < count {
+        return Outcome::Unwritten;
+    }
+    outcome_of(likeness_by(at, s.alike))
+}
+
+// Both traces from their beginnings on, of which the first walk found no error.
+pub(crate) fn differences(first: i32, second: i32, lengths: Lengths, watch: Watch) -> Outcome {
+    let mut a = io::large_buffer();
+    let mut b = io::large_buffer();
+    let mut out = io::large_buffer();
+    let mut s = fresh(first, second);
+    let mut rounds = TRIES;
+    while rounds > 0 && s.going {
+        s = round(s, watch, &mut a, &mut b, &mut out);
+        if watch.watched {
+            progress(total(s, watch.seen));
+        }
+        rounds -= 1;
+    }
+    if watch.watched {
+        no_progress(total(s, watch.seen));
+    }
+    let end = s.end;
+    match end {
+        End::Over => closed(s, lengths, &a, &b, &mut out),
+        End::FirstUnread => Outcome::FirstUnread,
+        End::SecondUnread => Outcome::SecondUnread,
+        End::Unwritten => Outcome::Unwritten,
+    }
 }

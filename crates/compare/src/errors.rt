@@ -15,6 +15,7 @@ use comparison::one::error_by;
 use comparison::one::extent;
 use comparison::one::records_end;
 use host::descriptor::TRIES;
+use host::said::no_progress;
 
 // Where a walk over one side stands: what it holds, what stands where its whole records end, and whether that is for good.
 pub(crate) struct Scan {
@@ -76,7 +77,8 @@ fn ended(side: Side, s: Scan) -> Walked
     }
 }
 
-pub(crate) fn walk(side: Side, fd: i32, watched: bool, before: usize) -> Walked {
+// The walk over one side. So many bytes of the other were read before.
+pub(crate) fn walk(side: Side, fd: i32, watched: bool, seen: usize) -> Walked {
     let mut buf = io::large_buffer();
     let mut s = Scan {
         held: begun(fd),
@@ -88,9 +90,13 @@ pub(crate) fn walk(side: Side, fd: i32, watched: bool, before: usize) -> Walked 
         s = round(s, &mut buf);
         if watched {
             let held = s.held;
-            progress(before, held.base);
+            progress(std::num::wrapping_add_u64(seen as u64, held.base as u64));
         }
         rounds -= 1;
+    }
+    if watched {
+        let held = s.held;
+        no_progress(std::num::wrapping_add_u64(seen as u64, held.base as u64));
     }
     ended(side, s)
 }

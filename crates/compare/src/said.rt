@@ -30,15 +30,24 @@ pub(crate) fn argument_unread() {
     unread();
 }
 
-pub(crate) fn file_unread(name: &mut [u8]) {
-    say(b"compare: cannot read ");
+// What a side is called: a file by its name, and standard input by what it is.
+fn called(name: &mut [u8], is_input: bool) {
+    if is_input {
+        say(b"standard input");
+        return;
+    }
     quoted(name);
+}
+
+pub(crate) fn side_unread(name: &mut [u8], is_input: bool) {
+    say(b"compare: cannot read ");
+    called(name, is_input);
     unread();
 }
 
-pub(crate) fn only_once(name: &mut [u8]) {
+pub(crate) fn only_once(name: &mut [u8], is_input: bool) {
     say(b"compare: cannot read ");
-    quoted(name);
+    called(name, is_input);
     say(b" twice (a pipe brings its bytes once: save them in a file, and name that)\n");
 }
 
@@ -51,10 +60,6 @@ pub(crate) fn output_unwritten() {
     os::fail(b" (make room there, or send it elsewhere)");
 }
 
-// All bytes of both walks count.
-pub(crate) fn progress(before: usize, now: usize) {
-    host::said::progress(
-        b"compare: ",
-        std::num::wrapping_add_u64(before as u64, now as u64),
-    );
+pub(crate) fn progress(total: u64) {
+    host::said::progress(b"compare: ", total);
 }

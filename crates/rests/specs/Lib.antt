@@ -1,0 +1,5 @@
+pub mod Decimal
+pub mod Held
+pub mod Answer
+pub mod Rest
+pub mod Bench
