@@ -1,2 +1,4 @@
 pub mod Listing
 pub mod Laws
+pub mod Whole
+pub mod Report

@@ -120,19 +120,23 @@ abbrev pub closingRoom : ℕ
 closingRoom = 3 * shortRoom
 
 -- ---- the whole: what a program prints of two traces
--- the lines of the records that differ, from here on
-unfoldable pub differsFrom : ℕ → List ℕ → List ℕ → Reach → List ℕ
-differsFrom zero first second r = []
-differsFrom (suc more) first second r =
+-- the lines of the records that differ, from here on, and behind the last pair what is said there
+unfoldable pub differsFrom : ℕ → List ℕ → List ℕ → (Reach → List ℕ) → Reach → List ℕ
+differsFrom zero first second end r = end r
+differsFrom (suc more) first second end r =
     cond (isPair (stepIn first second r))
-    (lineBy atTheFront first second (stepIn first second r) r ++ differsFrom more first second (advanced (stepIn first second r) r))
-    []
+    (lineBy atTheFront first second (stepIn first second r) r ++ differsFrom more first second end (advanced (stepIn first second r) r))
+    (end r)
 
+-- of all records
+unfoldable pub differsLines : List ℕ → List ℕ → List ℕ
+differsLines first second = differsFrom (suc (length first)) first second (λ r. []) atStart
+
+-- "One line for each record that differs", then who ends first, the rest and the likeness; "On a trace error the one line"
 abbrev pub reportBy : Error → List ℕ → List ℕ → Comparison → List ℕ
 reportBy (ErrorAt side x at) first second c = errorLine side x at
 reportBy NoError first second c =
-    differsFrom (suc (length first)) first second atStart
-    ++ closingLines (c .likeness) (c .ends) (length (restOf first second)) (length (restOf first second))
+    differsLines first second ++ closingLines (c .likeness) (c .ends) (length (restOf first second)) (length (restOf first second))
 
 unfoldable pub report : List ℕ → List ℕ → List ℕ
 report first second = reportBy (errorOf first second) first second (compared first second 0)
