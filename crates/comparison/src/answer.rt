@@ -13,6 +13,7 @@ use crate::both::step;
 use crate::both::walk;
 use crate::one::error_in;
 ghost use mathlib.Core.Path.{_≡_};
+ghost use Rattle.comparison.specs.Paper.{comparisonPaper, comparedPaper};
 ghost use Rattle.comparison.specs.Compare.{errorOf, endsBy, equalIf, prefixIf, likenessBy, concluded, troubled, compared, longerBy, restOf};
 
 // The first trace's error before the second's.
@@ -97,6 +98,7 @@ fn troubled(e: Error) -> Comparison
 // Any two traces and any number have an answer.
 pub fn compare(first: &[u8], second: &[u8], from: usize) -> Comparison
     ensures { λ r. ⌜ r ≡ compared (now (first .entry)) (now (second .entry)) from ⌝ }
+    ensures number { λ r. ⌜ comparisonPaper r ≡ comparedPaper (now (first .entry)) (now (second .entry)) from ⌝ }
 {
     let e = error_of(first, second);
     match e {

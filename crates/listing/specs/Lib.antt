@@ -2,3 +2,4 @@ pub mod Listing
 pub mod Laws
 pub mod Whole
 pub mod Report
+pub mod Bench

@@ -5,6 +5,7 @@ use mathlib.Core.List.{List}
 use Prim.Native.Nat.{ℕ}
 use Rattle.rules.specs.declared.refusals.Refusal.{Refusal}
 use Rattle.comparison.specs.Compare.{errorOf, stepOf, walked, concluded, troubled, comparedFrom, compared}
+use Rattle.comparison.specs.Paper.{comparisonPaper, comparedPaper, compared-on-paper}
 use Rattle.comparison.specs.declared.Side.{Side}
 use Rattle.comparison.specs.declared.Error.{Error}
 use Rattle.comparison.specs.declared.Error.the-variants.{At, Nothing}
@@ -21,6 +22,10 @@ use Rattle.comparison.proofs.answer.error_of.Reads as error-of-reads
 use Rattle.comparison.proofs.answer.troubled.Reads as troubled-reads
 use Rattle.comparison.proofs.both.step.Reads as step-reads
 use Rattle.comparison.proofs.both.walk.Reads as walk-reads
+
+on-paper : (first second : List ℕ) (from : ℕ) {r : Comparison} → r ≡ compared first second from
+    → (r ≡ compared first second from) × (comparisonPaper r ≡ comparedPaper first second from)
+on-paper first second from e = (e, compared-on-paper first second from e)
 
 module _ (first second : List ℕ) (from : ℕ) (e : Error) (told : e ≡ errorOf first second) (r : Comparison) where
   with-error : (side : Side) (x : Refusal) (at : ℕ) → e ≡ At side x at → r ≡ troubled e → r ≡ compared first second from
@@ -62,13 +67,14 @@ concluded-requires c κs = search needs
 
 -- src/answer.rt:97:1
 returns : tie.Need-returns
-returns c = with-error _ _ _ _ (c .before .before .before .error-of .ensures) _ _ _ _ (c .before .enum-told .given .1) (c .troubled .ensures)
+returns c = on-paper _ _ _ (with-error _ _ _ _ (c .before .before .before .error-of .ensures) _ _ _ _ (c .before .enum-told .given .1) (c .troubled .ensures))
 
 -- src/answer.rt:97:1
 returns-2 : tie.Need-returns-2
 returns-2 c =
-    without _ _ _ _ (c .before .before .before .before .before .error-of .ensures) _ (c .before .before .before .enum-told2 .given .1)
-    _ (c .before .before .walk .ensures) _ (c .before .step .ensures) (c .concluded .ensures)
+    on-paper _ _ _
+    (without _ _ _ _ (c .before .before .before .before .before .error-of .ensures) _ (c .before .before .before .enum-told2 .given .1)
+    _ (c .before .before .walk .ensures) _ (c .before .step .ensures) (c .concluded .ensures))
 
 pub compare-spec : {M : Type 1} → statement M
 compare-spec =

@@ -44,7 +44,7 @@ enum-told c = search needs
 
 -- src/answer.rt:141:26
 sub-result : tie.Need-sub-result
-sub-result c = the-longer-is-longer _ _ .1 (longer-told _ _ _ _ _ (c .before .before .before .compare .ensures) (c .before .before .longer-of .ensures) (c .enum-told .given .1))
+sub-result c = the-longer-is-longer _ _ .1 (longer-told _ _ _ _ _ (c .before .before .before .compare .ensures .0) (c .before .before .longer-of .ensures) (c .enum-told .given .1))
 
 -- src/answer.rt:141:26
 part-result-start : tie.Need-part-result-start
@@ -60,7 +60,7 @@ enum-told-2 c = search needs
 
 -- src/answer.rt:142:27
 sub-result-2 : tie.Need-sub-result-2
-sub-result-2 c = the-longer-is-longer _ _ .0 (longer-told _ _ _ _ _ (c .before .before .before .compare .ensures) (c .before .before .longer-of .ensures) (c .enum-told2 .given .1))
+sub-result-2 c = the-longer-is-longer _ _ .0 (longer-told _ _ _ _ _ (c .before .before .before .compare .ensures .0) (c .before .before .longer-of .ensures) (c .enum-told2 .given .1))
 
 -- src/answer.rt:142:27
 part-result-start-2 : tie.Need-part-result-start-2
@@ -90,19 +90,19 @@ part-result-end-3 c = search needs
 returns : tie.Need-returns
 returns c =
     let start = c .before .before .before .before .before .before .before in
-    all-behind (length (start .args .second .now)) (start .args .first .now) ∙ rest-told _ _ _ _ _ (c .before .before .before .before .compare .ensures) (c .before .before .before .longer-of .ensures) (c .before .enum-told .given .1)
+    all-behind (length (start .args .second .now)) (start .args .first .now) ∙ rest-told _ _ _ _ _ (c .before .before .before .before .compare .ensures .0) (c .before .before .before .longer-of .ensures) (c .before .enum-told .given .1)
 
 -- src/answer.rt:137:1
 returns-2 : tie.Need-returns-2
 returns-2 c =
     let start = c .before .before .before .before .before .before .before in
-    all-behind (length (start .args .first .now)) (start .args .second .now) ∙ rest-told _ _ _ _ _ (c .before .before .before .before .compare .ensures) (c .before .before .before .longer-of .ensures) (c .before .enum-told2 .given .1)
+    all-behind (length (start .args .first .now)) (start .args .second .now) ∙ rest-told _ _ _ _ _ (c .before .before .before .before .compare .ensures .0) (c .before .before .before .longer-of .ensures) (c .before .enum-told2 .given .1)
 
 -- src/answer.rt:137:1
 returns-3 : tie.Need-returns-3
 returns-3 c =
     let start = c .before .before .before .before .before .before .before in
-    all-behind (length (start .args .first .now)) (start .args .first .now) ∙ rest-told _ _ _ _ _ (c .before .before .before .before .compare .ensures) (c .before .before .before .longer-of .ensures) (c .before .enum-told3 .given .1)
+    all-behind (length (start .args .first .now)) (start .args .first .now) ∙ rest-told _ _ _ _ _ (c .before .before .before .before .compare .ensures .0) (c .before .before .before .longer-of .ensures) (c .before .enum-told3 .given .1)
 
 pub rest-spec : {M : Type 1} → statement M
 rest-spec =

@@ -62,7 +62,7 @@ returns c =
     let two =
     stands-more one (restLengthLine (length (now (rest .rest .result)))) (last .put-rest-length .last .1 .0) (last .put-rest-length .result) (last .put-rest-length .ensures .0)
     (omega (arith, start .pre, found .put-found .ensures .1, last .put-rest-length .ensures .1)) in (
-      answered (a .first .now) (a .second .now) (a .from) _ _ _ (compare .compare .ensures) (rest .rest .ensures) (two .front),
+      answered (a .first .now) (a .second .now) (a .from) _ _ _ (compare .compare .ensures .0) (rest .rest .ensures) (two .front),
       omega (arith, found .put-found .ensures .1, last .put-rest-length .ensures .1),
     )
 
