@@ -1,2 +1,4 @@
 pub mod Parts
 pub mod Rounds
+pub mod Runs
+pub mod Scanned

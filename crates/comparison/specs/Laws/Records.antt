@@ -94,9 +94,18 @@ module _ (trace : List ℕ) where
       go (broken d) rest = here-it-ends (broken d) refl
 
   -- what stands where the whole records end
-  pub records-or-error : Ending trace 0 (recordsEnd trace 0)
+  records-or-error : Ending trace 0 (recordsEnd trace 0)
   unfolding recordsEnd
   records-or-error = ending (suc (length trace)) 0 (omega arith)
+
+  -- no whole record does
+  pub none-stands-there : (at : ℕ) → isWhole (extentAt trace (recordsEnd trace at)) ≡ false
+  unfolding recordsEnd
+  none-stands-there at = go (ending (suc (length trace)) at (omega arith))
+    where
+      go : {end : ℕ} → Ending trace at end → isWhole (extentAt trace end) ≡ false
+      go {end} (well records e) = ap isWhole (ended-extent trace end e)
+      go {end} (badly {x} way e) = ap isWhole (extent-of trace end (Unread x) e)
 
   records-end-at-the-end : {at : ℕ} {rs : List (List ℕ)} → Records trace at rs → recordsEnd trace at ≡ length trace
   unfolding recordsEnd

@@ -75,7 +75,7 @@ put-step-requires c κs =
 
 -- src/lib.rt:123:9
 add-count : tie.Need-add-count Inv-loop μ-loop
-add-count c = 
+add-count c =
     let fits = within (c .before .before .before .before .before .before .before .before .loop .inv) (c .before .before .before .before .before .before .before .step .ensures) (c .before .before .before .before .before .before .is-pair .ensures) (not-false _ (c .before .before .before .before .before .if1 .left)) (c .before .before .before .before .if2 .left) (c .before .before .put-step .kept .1 .1 .1 .1 .1 .0) (c .before .before .put-step .ensures .0) in
     omega (arith, fits)
 
@@ -89,7 +89,7 @@ loop-less c = nearer (c .before .before .before .before .before .before .before 
 
 -- src/lib.rt:115:5
 loop-again : tie.Need-loop-again Inv-loop μ-loop
-loop-again c = 
+loop-again c =
     goes (c .before .before .before .before .before .before .before .before .before .loop .inv) (c .before .before .before .before .before .before .before .before .step .ensures) (c .before .before .before .before .before .before .before .is-pair .ensures) (not-false _ (c .before .before .before .before .before .before .if1 .left)) (c .before .before .before .before .before .if2 .left) (c .before .before .before .put-step .kept .1 .1 .1 .1 .1 .0) (c .before .before .before .put-step .ensures .0) _ (c .advance .ensures)
 
 pub list-spec : {M : Type 1} → statement M

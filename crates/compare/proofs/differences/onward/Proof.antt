@@ -32,7 +32,7 @@ same-length c = search needs
 
 -- src/differences.rt:186:9
 returns : tie.Need-returns
-returns c = 
+returns c =
     record {
       stands = first-stands (c .before .before .before .before .before .before .before .before .before .before .before .pre .0) (c .before .before .more-first .kept .1 .0) (c .before .before .more-first .ensures);
       next = first-more (c .before .before .more-first .ensures) refl;
@@ -56,7 +56,7 @@ same-length-3 c = search needs
 
 -- src/differences.rt:189:9
 returns-2 : tie.Need-returns-2
-returns-2 c = 
+returns-2 c =
     record {
       stands = second-stands (c .before .before .before .before .before .before .before .before .before .before .before .before .before .before .pre .0) (c .before .before .more-second .kept .1 .0) (c .before .before .more-second .ensures);
       next = second-more (c .before .before .more-second .ensures) refl;
@@ -96,7 +96,7 @@ same-length-7 c = search needs
 
 -- src/differences.rt:179:1
 returns-4 : tie.Need-returns-4
-returns-4 c = 
+returns-4 c =
     rw (c .ended .ensures)
     (record {
       stands = stands-ended Over (c .before .before .before .before .before .before .before .before .before .before .before .before .before .before .before .before .pre .0);
