@@ -1,19 +1,17 @@
 -- What a walk over both sides stands on, after each of its steps.
 -- Assumes nothing.
-use mathlib.Core.Path.{_≡_, refl, sym, ap, _∙_}
-use mathlib.Core.Bool.{Bool, true, false}
+use mathlib.Core.Path.{_≡_}
 use mathlib.Core.List.{List}
-use Prim.Native.Nat.{ℕ, _+_, _≤_, _<_, _^_}
+use Prim.Native.Nat.{ℕ}
 use native.Mathlib.Omega.{arith}
-use lib.ListN.{length, take}
+use lib.ListN.{length}
 use lib.Seq.{length-take-le}
-use Rattle.listing.specs.Listing.{Holds, listed, Lists}
+use Rattle.listing.specs.Listing.{Holds}
 use Rattle.listing.specs.declared.Reach.{Reach}
-use Rattle.listing.specs.declared.Listed.{Listed}
 use Rattle.compare.specs.Parts.{Inside, part, OneScan}
 use Rattle.compare.specs.Parts.OneScan.{unread, scanned}
 use Rattle.compare.specs.declared.errors.Scan.{Scan}
-use Rattle.compare.specs.Rounds.{Stands, beginsOf, reachOf, linesOf, Told, reachedBy, endedBy, ReadOn, FirstMore, SecondMore, OneRound, Fresh}
+use Rattle.compare.specs.Rounds.{Stands, beginsOf, reachOf, reachedBy, endedBy, FirstMore, SecondMore, OneRound, Fresh}
 use Rattle.compare.specs.Rounds.OneRound.{wrote, unwritten}
 use Rattle.compare.specs.Rounds.FirstMore.{read-on as first-on, unread as first-unread}
 use Rattle.compare.specs.Rounds.SecondMore.{read-on as second-on, unread as second-unread}

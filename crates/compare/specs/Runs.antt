@@ -2,11 +2,11 @@
 -- and the writes take those of the lines is taken for granted here: no contract can say it.
 -- Assumes nothing.
 use mathlib.Core.Path.{_≡_, refl, sym, ap, _∙_}
-use mathlib.Core.Bool.{Bool, true, false, not, _&&_}
+use mathlib.Core.Bool.{Bool, true, false}
 use mathlib.Core.List.{List, [], _++_, append-nil}
-use Prim.Native.Nat.{ℕ, _+_, _-_, _≤_}
+use Prim.Native.Nat.{ℕ, _+_, _-_}
 use native.Mathlib.Omega.{arith}
-use lib.ListN.{length, drop}
+use lib.ListN.{length}
 use Rattle.rules.specs.Trace.{readAt}
 use Rattle.rules.specs.Chunks.{isCut as isCutRead}
 use Rattle.rules.specs.Laws.Bools.{never, true-not-false, and-swap}
@@ -14,7 +14,7 @@ use Rattle.rules.specs.Laws.Pieces.{same-with-more, shifted, shifted-with-less}
 use Rattle.rules.specs.declared.trace.Read.{Read}
 use Rattle.rules.specs.declared.trace.Read.the-variants.{Found, End as EndOf, Refused as Unread}
 use Rattle.comparison.specs.Compare.{extentOf, extentAt, stepBy, stepAt, isPair, errorOf}
-use Rattle.comparison.specs.Laws.Steps.{WholeAt, Stepping, each-step, ended-extent}
+use Rattle.comparison.specs.Laws.Steps.{Stepping, each-step, ended-extent}
 use Rattle.comparison.specs.Laws.Steps.Stepping.{same, differ, first-ends, second-ends, both-end, first-broken, second-broken}
 use Rattle.comparison.specs.declared.Error.the-variants.{Nothing as NoError}
 use Rattle.comparison.specs.declared.Extent.{Extent}
@@ -22,13 +22,11 @@ use Rattle.comparison.specs.declared.Extent.the-variants.{Whole, End, Refused}
 use Rattle.comparison.specs.declared.Step.{Step}
 use Rattle.comparison.specs.declared.Step.the-variants.{Same, Differs, FirstEnds, SecondEnds, BothEnd, Refused as StepRefused}
 use Rattle.listing.specs.Listing.{stepIn, atTheFront, atStart, closingBy, report}
-use Rattle.listing.specs.Whole.{Held as PartOf, whole-there, shift, closingAt, Ran}
+use Rattle.listing.specs.Whole.{Held as PartOf, shift, closingAt, Ran}
 use Rattle.listing.specs.Whole.Ran.{lists, holds, over as over-there}
 use Rattle.listing.specs.Report.{however-cut}
-use Rattle.listing.specs.declared.Begins.{Begins}
-use Rattle.listing.specs.declared.Reach.{Reach}
 use Rattle.compare.specs.Parts.{part, isCut, wantsBytes}
-use Rattle.compare.specs.Rounds.{beginsOf, reachOf, linesOf, reachedBy, endedBy, wantsMore, stepHeld, FirstMore, SecondMore, Next, Onward, OneRound, Fresh}
+use Rattle.compare.specs.Rounds.{beginsOf, reachOf, linesOf, reachedBy, endedBy, wantsMore, stepHeld, Next, OneRound, Fresh}
 use Rattle.compare.specs.Rounds.FirstMore.{read-on as first-on, unread as first-unread}
 use Rattle.compare.specs.Rounds.SecondMore.{read-on as second-on, unread as second-unread}
 use Rattle.compare.specs.Rounds.Next.{first-more, second-more, stays, over}

@@ -2,14 +2,14 @@
 -- the bytes of the trace is taken for granted here: no contract can say it.
 -- Assumes nothing.
 use mathlib.Core.Path.{_≡_, refl, sym, ap, _∙_}
-use mathlib.Core.Bool.{Bool, true, false, cond, not}
+use mathlib.Core.Bool.{true, false, cond}
 use mathlib.Core.List.{List, []}
-use Prim.Native.Nat.{ℕ, zero, suc, _+_, _≤_}
+use Prim.Native.Nat.{ℕ, zero, suc, _+_}
 use native.Mathlib.Omega.{arith}
 use lib.ListN.{length}
 use borrow.Author.Tests.{not-true}
 use Rattle.comparison.specs.Compare.{extentAt, isWhole, pastOf, recordsEndFrom, recordsEnd, errorBy, errorIn}
-use Rattle.comparison.specs.Laws.Steps.{WholeAt, Extending, each-extent, records-end-here, records-end-on}
+use Rattle.comparison.specs.Laws.Steps.{Extending, each-extent, records-end-here, records-end-on}
 use Rattle.comparison.specs.Laws.Steps.Extending.{stands, over, broken}
 use Rattle.comparison.specs.Laws.Records.{none-stands-there}
 use Rattle.comparison.specs.declared.Side.{Side}

@@ -8,7 +8,7 @@ use Rattle.rules.specs.Bench.Edges.{Seen, see, allSame}
 use Rattle.rules.specs.Trace.{bytesOf, numberOf, isKind, layout, fieldsOf, recordOf, bodyOf, recordBytes, fieldsFrom, behind, readKind, readAt}
 use Rattle.rules.specs.Laws.Trace.{traceOf}
 use Rattle.rules.specs.declared.trace.Record.{Record}
-use Rattle.rules.specs.declared.trace.Record.the-variants.{Node, Model, Start, Bio as BioOf, Tick, Plan}
+use Rattle.rules.specs.declared.trace.Record.the-variants.{Node, Model, Start, Bio as BioOf, Tick}
 use Rattle.comparison.specs.Compare.{extentAt, recordsEndFrom, recordsEnd, errorIn, errorOf, stepBy, stepAt, passed, walkFrom, walked, concluded, comparedFrom, compared, restOf}
 use Rattle.comparison.specs.Paper.{comparisonPaper}
 

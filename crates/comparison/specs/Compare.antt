@@ -1,12 +1,11 @@
 -- Request Seven: two traces compared record by record, numbered from 0.
 -- Assumes nothing.
-use mathlib.Core.Bool.{Bool, true, false, cond, not, _&&_}
+use mathlib.Core.Bool.{Bool, true, false, cond, _&&_}
 use mathlib.Core.List.{List, [], _∷_}
 use Prim.Native.Nat.{ℕ, zero, suc, _+_, _-_}
 use lib.Dec.{eqb, leb}
 use lib.ListN.{length, take, drop}
 use Rattle.rules.specs.Trace.{kindOf, readAt}
-use Rattle.rules.specs.declared.refusals.Refusal.{Refusal}
 use Rattle.rules.specs.declared.trace.Read.{Read}
 use Rattle.rules.specs.declared.trace.Read.the-variants.{Found, End as EndOf, Refused as Unread}
 use Rattle.comparison.specs.declared.Side.{Side}

@@ -9,16 +9,16 @@ use mathlib.Core.Logic.{_⊎_, inl, inr, _↔_}
 use Prim.Native.Nat.{ℕ, zero, suc, _+_, _-_, _≤_, _<_}
 use native.Mathlib.Omega.{arith}
 use lib.Dec.{eqb, leb, ltb}
-use lib.ListN.{length, getD, take, drop, length-append, length-drop}
+use lib.ListN.{length, getD, drop, length-append, length-drop}
 use lib.Seq.{drop-at, drop-length, take-append-le, drop-append-le}
-use borrow.Author.Tests.{le-leb, eqb-true, eq-eqb, leb-true, leb-false, ltb-true, ltb-false, lt-ltb, le-ltb}
+use borrow.Author.Tests.{le-leb, eqb-true, eq-eqb, leb-true, ltb-true, lt-ltb, le-ltb}
 use Rattle.rules.specs.Trace.{readAt}
 use Rattle.rules.specs.Chunks.{isCut}
 use Rattle.rules.specs.Laws.Bools.{never, true-not-false, same-test, and-left, and-right, and-both}
 use Rattle.rules.specs.Laws.Pieces.{same-with-more}
 use Rattle.rules.specs.declared.refusals.Refusal.{Refusal}
 use Rattle.rules.specs.declared.trace.Record.{Record}
-use Rattle.rules.specs.declared.trace.Read.the-variants.{Found, Refused as Unread}
+use Rattle.rules.specs.declared.trace.Read.the-variants.{Found}
 use Rattle.comparison.specs.Compare.{extentAt, recordsEnd, errorBy, errorIn, elseError, errorOf, sameBytes, between, atStart, walked, concluded, troubled, unlessError, comparedFrom, compared, longerBy, longerOf, restBy, restOf}
 use Rattle.comparison.specs.Laws.Steps.{WholeAt}
 use Rattle.comparison.specs.Laws.Records.{Records, joined, records-make-the-trace, one-list-of-records, without-error, kindIn, differenceIn, endsIn, likenessIn, listed, compared-by-the-records}

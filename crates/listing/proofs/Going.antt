@@ -1,12 +1,11 @@
 -- The lines on the way: what was written so far, and that what is left of them is what these parts still have.
 -- Assumes nothing.
-use mathlib.Core.Path.{_≡_, refl, sym, ap, _∙_}
+use mathlib.Core.Path.{_≡_, sym, ap, _∙_}
 use mathlib.Core.Bool.{Bool, true, false}
 use mathlib.Core.List.{List, [], _++_, append-nil, append-assoc}
 use Prim.Native.Nat.{ℕ, _+_, _-_, _≤_, _<_, _^_}
 use native.Mathlib.Nat.{sub-zero, sub-add-eq}
 use native.Mathlib.Omega.{arith}
-use lib.Dec.{leb}
 use lib.ListN.{length}
 use borrow.Author.Tests.{le-leb, lt-leb}
 use Rattle.rules.specs.Buffers.{Written, Stands, restOf, putBack}
@@ -19,7 +18,6 @@ use Rattle.listing.specs.Listing.{lineBy, advanced, stepIn, Holds, none,
 use Rattle.listing.specs.Laws.{a-pair-goes-on, list-on, list-stays}
 use Rattle.listing.specs.declared.Begins.{Begins}
 use Rattle.listing.specs.declared.Reach.{Reach}
-use Rattle.listing.specs.declared.Listed.{Listed}
 
 pub record Going (b : Begins) (here there : List ℕ) (r₀ : Reach) (o₀ o : List ℕ) (r : Reach) (count : ℕ) : Type 0 where
   pub bytes : List ℕ

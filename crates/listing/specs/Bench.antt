@@ -2,7 +2,7 @@
 -- Assumes nothing.
 use mathlib.Core.Path.{_≡_, refl}
 use mathlib.Core.Bool.{true}
-use mathlib.Core.List.{List, [], _∷_, _++_}
+use mathlib.Core.List.{List, [], _∷_}
 use Prim.Native.Nat.{ℕ}
 use Rattle.rules.specs.Bench.Edges.{Seen, see, allSame}
 use Rattle.rules.specs.Trace.{bytesOf, numberOf, isKind, layout, fieldsOf, recordOf, bodyOf, recordBytes, fieldsFrom, behind, readKind, readAt}

@@ -1,19 +1,17 @@
 -- Laws of the lines: each pair goes on in both parts, and there are steps enough.
 -- Assumes nothing.
-use mathlib.Core.Path.{_≡_, refl, sym, ap, _∙_}
-use mathlib.Core.Bool.{Bool, true, false, cond, _&&_}
-use mathlib.Core.List.{List, [], _∷_, _++_}
+use mathlib.Core.Path.{_≡_, refl, sym, ap}
+use mathlib.Core.Bool.{Bool, true, false, cond}
+use mathlib.Core.List.{List}
 use Prim.Native.Nat.{ℕ, zero, suc, _+_, _-_, _≤_, _<_}
 use native.Mathlib.Omega.{arith}
-use lib.Dec.{leb}
 use lib.ListN.{length}
-use Rattle.rules.specs.Laws.Bools.{true-not-false, is-false, and-left, and-not-left, and-not-right}
-use Rattle.comparison.specs.Compare.{stepAt, isPair}
+use Rattle.rules.specs.Laws.Bools.{true-not-false, is-false, and-left, and-not-left}
+use Rattle.comparison.specs.Compare.{isPair}
 use Rattle.comparison.specs.Laws.Steps.{Stepping, each-step}
 use Rattle.comparison.specs.Laws.Steps.Stepping.{same, differ, first-ends, second-ends, both-end, first-broken, second-broken}
-use Rattle.text.specs.Lines.{differsRoom}
 use Rattle.comparison.specs.declared.Step.{Step}
-use Rattle.listing.specs.Listing.{lineBy, advanced, stepIn, Holds, Lines, none, before, goesOn, listFrom, listed}
+use Rattle.listing.specs.Listing.{lineBy, advanced, stepIn, Lines, none, before, goesOn, listFrom, listed}
 use Rattle.listing.specs.declared.Begins.{Begins}
 use Rattle.listing.specs.declared.Reach.{Reach}
 

@@ -2,14 +2,14 @@
 -- Assumes nothing.
 use mathlib.Core.Path.{_≡_}
 use mathlib.Core.Bool.{Bool, true, false, cond, _&&_}
-use mathlib.Core.List.{List, [], _∷_, _++_}
+use mathlib.Core.List.{List, [], _++_}
 use Prim.Native.Nat.{ℕ, zero, suc, _+_, _-_, _*_, _^_, _≤_, _<_}
 use lib.Dec.{leb}
-use lib.ListN.{length, getD, drop}
+use lib.ListN.{length, getD}
 use Rattle.rules.specs.Trace.{isKind}
 use Rattle.rules.specs.Buffers.{Written}
 use Rattle.rules.specs.Laws.Trace.{recordAt, endAt}
-use Rattle.comparison.specs.Compare.{stepAt, isPair, endsBy, likenessBy, longerBy, longerOf, restOf, errorOf, compared}
+use Rattle.comparison.specs.Compare.{stepAt, isPair, endsBy, likenessBy, longerBy, restOf, errorOf, compared}
 use Rattle.text.specs.Lines.{differsLine, endsLine, restLine, likenessLine, errorLine, differsRoom, shortRoom}
 use Rattle.comparison.specs.declared.Side.the-variants.{First, Second}
 use Rattle.comparison.specs.declared.Ends.{Ends}

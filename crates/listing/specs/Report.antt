@@ -4,18 +4,16 @@
 use mathlib.Core.Path.{_≡_, refl, sym, ap, _∙_}
 use mathlib.Core.Bool.{Bool, true, false, cond}
 use mathlib.Core.List.{List, [], _++_, append-assoc}
-use Prim.Native.Nat.{ℕ, zero, suc, _+_, _-_, _≤_, _<_}
+use Prim.Native.Nat.{ℕ, zero, suc, _+_, _-_, _≤_}
 use native.Mathlib.Omega.{arith}
 use lib.ListN.{length, drop, length-drop, length-take}
-use Rattle.rules.specs.Laws.Bools.{never, true-not-false}
-use Rattle.comparison.specs.Compare.{errorOf, sameBytes, between, stepAt, isPair, passed, stepOf, atStart as walkStart, walkFrom, walked, endsBy, likenessBy, concluded, comparedFrom, compared, longerBy, longerOf, restBy, restOf}
+use Rattle.rules.specs.Laws.Bools.{never}
+use Rattle.comparison.specs.Compare.{errorOf, between, isPair, passed, stepOf, atStart as walkStart, walkFrom, walked, endsBy, likenessBy, concluded, comparedFrom, compared, longerBy, longerOf, restBy, restOf}
 use Rattle.comparison.specs.Laws.Steps.{Stepping, each-step, walk-here, walk-on, walkOn}
 use Rattle.comparison.specs.Laws.Steps.Stepping.{same, differ, first-ends, second-ends, both-end, first-broken, second-broken}
 use Rattle.comparison.specs.Theorems.{same-bytes-are-equal}
 use Rattle.comparison.specs.declared.Ends.{Ends}
-use Rattle.comparison.specs.declared.Ends.the-variants.{First as EndsFirst, Second as EndsSecond, Neither, Untold as NoEnd}
 use Rattle.comparison.specs.declared.Likeness.{Likeness}
-use Rattle.comparison.specs.declared.Likeness.the-variants.{Equal, Prefix, Different, Untold}
 use Rattle.comparison.specs.declared.Error.the-variants.{Nothing as NoError}
 use Rattle.comparison.specs.declared.Comparison.{Comparison}
 use Rattle.comparison.specs.declared.Longer.{Longer}
@@ -24,10 +22,9 @@ use Rattle.text.specs.Lines.{endsLine, likenessLine}
 use Rattle.comparison.specs.declared.Step.{Step}
 use Rattle.comparison.specs.declared.Step.the-variants.{Same, Differs, FirstEnds, SecondEnds, BothEnd, Refused}
 use Rattle.comparison.specs.declared.Walk.{Walk}
-use Rattle.listing.specs.Listing.{lineBy, advanced, stepIn, atTheFront, atStart, restLineBy, closingLines, closingBy, differsFrom, differsLines, report}
+use Rattle.listing.specs.Listing.{lineBy, advanced, stepIn, atTheFront, atStart, restLineBy, closingLines, differsFrom, differsLines, report}
 use Rattle.listing.specs.Laws.{a-pair-goes-on, no-pair-left}
-use Rattle.listing.specs.Whole.{shift, differsOn, differs-on, differs-here, closingAt, Ran, ran-prints}
-use Rattle.listing.specs.declared.Begins.{Begins}
+use Rattle.listing.specs.Whole.{differsOn, closingAt, Ran, ran-prints}
 use Rattle.listing.specs.declared.Reach.{Reach}
 
 -- ---- the lines go where the walk of the answer goes

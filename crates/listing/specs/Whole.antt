@@ -1,28 +1,27 @@
 -- However two traces are cut into parts, and whatever room the lines are given, they are those of the whole traces.
 -- Assumes nothing.
 use mathlib.Core.Path.{_≡_, refl, sym, ap, _∙_}
-use mathlib.Core.Bool.{Bool, true, false, cond, _&&_}
-use mathlib.Core.List.{List, [], _∷_, _++_, append-nil, append-assoc}
-use Prim.Native.Nat.{ℕ, zero, suc, _+_, _-_, _≤_, _<_}
+use mathlib.Core.Bool.{Bool, true, false, cond}
+use mathlib.Core.List.{List, _++_, append-assoc}
+use Prim.Native.Nat.{ℕ, zero, suc, _+_, _-_, _≤_}
 use native.Mathlib.Omega.{arith}
-use lib.Dec.{leb}
-use lib.ListN.{length, getD, take, drop, length-append, length-drop}
+use lib.ListN.{length, drop, length-drop}
 use lib.Seq.{drop-drop, take-append-le, drop-append-le}
 use Rattle.rules.specs.Trace.{kindOf, readAt}
 use Rattle.rules.specs.Chunks.{isCut}
 use Rattle.rules.specs.Laws.Bools.{true-not-false, and-left}
-use Rattle.rules.specs.Laws.Trace.{recordAt, end-at-the-end}
+use Rattle.rules.specs.Laws.Trace.{recordAt}
 use Rattle.rules.specs.Laws.Pieces.{same-with-more, shifted, shifted-with-less}
 use Rattle.rules.specs.declared.trace.Record.{Record}
-use Rattle.rules.specs.declared.trace.Read.the-variants.{Found, End as EndOf}
-use Rattle.comparison.specs.Compare.{extentOf, extentAt, sameBytes, between, stepAt, isPair}
-use Rattle.comparison.specs.Laws.Steps.{WholeAt, whole-at, extent-of, Stepping, each-step, pair-step, first-ends-step, second-ends-step, both-end-step}
+use Rattle.rules.specs.declared.trace.Read.the-variants.{Found}
+use Rattle.comparison.specs.Compare.{between, isPair}
+use Rattle.comparison.specs.Laws.Steps.{WholeAt, whole-at, extent-of, Stepping, each-step, pair-step}
 use Rattle.comparison.specs.Laws.Steps.Stepping.{same, differ, first-ends, second-ends, both-end, first-broken, second-broken}
 use Rattle.comparison.specs.declared.Extent.{Extent}
 use Rattle.comparison.specs.declared.Extent.the-variants.{Whole}
 use Rattle.comparison.specs.declared.Step.{Step}
 use Rattle.comparison.specs.declared.Step.the-variants.{Same, Differs, FirstEnds, SecondEnds, BothEnd, Refused}
-use Rattle.listing.specs.Listing.{differsAt, lineBy, advanced, stepIn, atTheFront, atStart, Lines, none, before, goesOn, listFrom, listed, closingBy, differsFrom}
+use Rattle.listing.specs.Listing.{differsAt, lineBy, advanced, stepIn, atTheFront, Lines, none, before, goesOn, listFrom, listed, closingBy, differsFrom}
 use Rattle.listing.specs.Laws.{a-pair-goes-on, no-pair-left}
 use Rattle.listing.specs.declared.Begins.{Begins}
 use Rattle.listing.specs.declared.Reach.{Reach}

@@ -1,11 +1,11 @@
 -- The rest that is handed back is whole records to its end: a walk over it stops nowhere before.
 -- Assumes nothing.
 use mathlib.Core.Path.{_≡_, refl, sym, ap, _∙_}
-use mathlib.Core.List.{List, [], _∷_, _++_}
+use mathlib.Core.List.{List, [], _++_}
 use mathlib.Core.Logic.{⊎-elim}
 use Prim.Native.Nat.{ℕ, _+_, _≤_}
 use native.Mathlib.Omega.{arith}
-use lib.ListN.{length, drop, length-append}
+use lib.ListN.{length, length-append}
 use lib.Seq.{drop-at}
 use Rattle.rules.specs.Trace.{readAt}
 use Rattle.rules.specs.Chunks.{isCut}

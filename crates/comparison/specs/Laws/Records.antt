@@ -2,22 +2,20 @@
 -- Assumes nothing.
 use mathlib.Core.Path.{_≡_, refl, sym, ap, _∙_}
 use mathlib.Core.Bool.{Bool, true, false, cond, not, _&&_}
-use mathlib.Core.List.{List, [], _∷_, _++_, append-nil, append-assoc}
+use mathlib.Core.List.{List, [], _∷_, _++_}
 use mathlib.Core.Logic.{_↔_}
-use Prim.Native.Nat.{ℕ, zero, suc, _+_, _-_, _≤_, _<_}
+use Prim.Native.Nat.{ℕ, zero, suc, _+_, _-_, _<_}
 use native.Mathlib.Omega.{arith}
-use lib.Dec.{eqb, leb}
-use lib.ListN.{length, getD, take, drop, length-append, take-append-drop}
-use lib.Seq.{getD-take, getD-drop, drop-length, drop-drop, take-append-le, drop-append-le}
+use lib.Dec.{leb}
+use lib.ListN.{length, getD, drop, take-append-drop}
+use lib.Seq.{getD-take, getD-drop, drop-length, drop-drop}
 use Rattle.rules.specs.Trace.{readAt}
-use Rattle.rules.specs.Chunks.{isCut}
 use Rattle.rules.specs.Laws.Bools.{never, true-not-false, and-not-right}
-use Rattle.rules.specs.Laws.Pieces.{same-with-more}
 use Rattle.rules.specs.declared.refusals.Refusal.{Refusal}
 use Rattle.rules.specs.Laws.Trace.{beyond-is-cut}
-use Rattle.rules.specs.declared.trace.Read.the-variants.{Found, Refused as Unread}
-use Rattle.comparison.specs.Compare.{extentAt, isWhole, pastOf, recordsEndFrom, recordsEnd, errorBy, errorIn, sameBytes, between, stepAt, isPair, elseDifference, passed, stepOf, endsBy, likenessBy, concluded, comparedFrom, compared, errorOf, walked, atStart}
-use Rattle.comparison.specs.Laws.Steps.{WholeAt, Extending, each-extent, whole-at, extent-of, ended-extent, records-end-here, records-end-on, pair-step, first-ends-step, second-ends-step, both-end-step, walk-here, walk-on, walkOn}
+use Rattle.rules.specs.declared.trace.Read.the-variants.{Refused as Unread}
+use Rattle.comparison.specs.Compare.{extentAt, isWhole, pastOf, recordsEndFrom, recordsEnd, errorBy, errorIn, sameBytes, between, isPair, elseDifference, passed, stepOf, concluded, comparedFrom, compared, errorOf, walked, atStart}
+use Rattle.comparison.specs.Laws.Steps.{WholeAt, Extending, each-extent, extent-of, ended-extent, records-end-here, records-end-on, pair-step, first-ends-step, second-ends-step, both-end-step, walk-here, walk-on, walkOn}
 use Rattle.comparison.specs.Laws.Steps.Extending.{stands, over, broken}
 use Rattle.comparison.specs.declared.Side.{Side}
 use Rattle.comparison.specs.declared.Side.the-variants.{First, Second}
@@ -30,7 +28,7 @@ use Rattle.comparison.specs.declared.Likeness.the-variants.{Equal, Prefi
 use Rattle.comparison.specs.declared.Error.the-variants.{At as ErrorAt, Nothing as NoError}
 use Rattle.comparison.specs.declared.Comparison.{Comparison}
 use Rattle.comparison.specs.declared.Extent.{Extent}
-use Rattle.comparison.specs.declared.Extent.the-variants.{Whole, End, Refused}
+use Rattle.comparison.specs.declared.Extent.the-variants.{Whole}
 use Rattle.comparison.specs.declared.Step.{Step}
 use Rattle.comparison.specs.declared.Step.the-variants.{Same, Differs, FirstEnds, SecondEnds, BothEnd}
 use Rattle.comparison.specs.declared.Walk.{Walk}

@@ -1,8 +1,8 @@
 -- Laws of one step and of the walks: what each answer says, that each goes on, and that there are steps enough.
 -- Assumes nothing.
 use mathlib.Core.Path.{_≡_, refl, sym, _∙_}
-use mathlib.Core.Bool.{Bool, true, false, cond, not, _&&_}
-use mathlib.Core.List.{List, [], _∷_}
+use mathlib.Core.Bool.{Bool, true, false, cond, _&&_}
+use mathlib.Core.List.{List}
 use Prim.Native.Nat.{ℕ, zero, suc, _+_, _-_, _≤_, _<_}
 use native.Mathlib.Omega.{arith}
 use lib.Dec.{eqb}
@@ -10,15 +10,13 @@ use lib.ListN.{length, getD, take, drop}
 use lib.Seq.{drop-cons}
 use Rattle.rules.specs.Trace.{isKind, kindOf, layout, total, behind, readAt}
 use Rattle.rules.specs.Laws.Bools.{true-not-false, is-false}
-use Rattle.rules.specs.Laws.Trace.{Reading, each-answer, end-at-the-end, whole-is-found, unknown-is-refused, short-is-cut, recordAt, endAt, kind-of-record}
+use Rattle.rules.specs.Laws.Trace.{Reading, each-answer, end-at-the-end, whole-is-found, short-is-cut, recordAt, kind-of-record}
 use Rattle.rules.specs.Laws.Trace.Reading.{beyond, ended, unknown, cut, whole}
 use Rattle.rules.specs.declared.refusals.Refusal.{Refusal}
 use Rattle.rules.specs.declared.refusals.Refusal.the-variants.{CutShort}
-use Rattle.rules.specs.declared.trace.Record.{Record}
 use Rattle.rules.specs.declared.trace.Read.{Read}
 use Rattle.rules.specs.declared.trace.Read.the-variants.{Found, End as EndOf, Refused as Unread}
-use Rattle.comparison.specs.Compare.{extentOf, extentAt, isWhole, pastOf, recordsEndFrom, recordsEnd, sameBytes, between, stepBy, stepAt, isPair, passed, stepOf, walkFrom, walked, atStart}
-use Rattle.comparison.specs.declared.Side.{Side}
+use Rattle.comparison.specs.Compare.{extentOf, extentAt, isWhole, pastOf, recordsEndFrom, recordsEnd, sameBytes, between, stepBy, stepAt, isPair, passed, stepOf, walkFrom}
 use Rattle.comparison.specs.declared.Side.the-variants.{First, Second}
 use Rattle.comparison.specs.declared.Extent.{Extent}
 use Rattle.comparison.specs.declared.Extent.the-variants.{Whole, End, Refused}

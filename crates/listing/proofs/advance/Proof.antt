@@ -6,67 +6,51 @@ use Rattle.listing.specs.Listing.{advanced}
 use borrow.Author.Needs.{needs}
 use Rattle.listing.proofs.advance.Statement.{statement}
 use Rattle.listing.proofs.advance.Tie as tie
-use Rattle.listing.proofs.advance.Reads as reads
-use Rattle.listing.proofs.advance.Lts as lts
 
--- src/lib.rt:89:20
 enum-known-s : tie.Need-enum-known-s
 enum-known-s c = search needs
 
--- src/lib.rt:90:21
 add-t8 : tie.Need-add-t8
 add-t8 c = search needs
 
--- src/lib.rt:95:29
 enum-known-s-2 : tie.Need-enum-known-s-2
 enum-known-s-2 c = search needs
 
--- src/lib.rt:96:21
 add-t9 : tie.Need-add-t9
 add-t9 c = search needs
 
--- src/lib.rt:101:28
 enum-told : tie.Need-enum-told
 enum-told c = search needs
 
--- src/lib.rt:102:29
 enum-told-2 : tie.Need-enum-told-2
 enum-told-2 c = search needs
 
--- src/lib.rt:103:26
 enum-told-3 : tie.Need-enum-told-3
 enum-told-3 c = search needs
 
--- src/lib.rt:104:32
 enum-told-4 : tie.Need-enum-told-4
 enum-told-4 c = search needs
 
--- src/lib.rt:84:1
 returns : tie.Need-returns
 unfolding advanced
 returns c = sym (ap (λ (s : Step). advanced s (c .before .before .before .before .args .r)) (c .before .before .s .given .1))
 
--- src/lib.rt:84:1
 returns-2 : tie.Need-returns-2
 unfolding advanced
 returns-2 c = sym (ap (λ (s : Step). advanced s (c .before .before .before .before .args .r)) (c .before .before .s2 .given .1))
 
--- src/lib.rt:84:1
 returns-3 : tie.Need-returns-3
 unfolding advanced
 returns-3 c = sym (ap (λ (s : Step). advanced s (c .before .before .args .r)) (c .enum-told .given .1))
 
--- src/lib.rt:84:1
 returns-4 : tie.Need-returns-4
 unfolding advanced
 returns-4 c = sym (ap (λ (s : Step). advanced s (c .before .before .args .r)) (c .enum-told2 .given .1))
 
--- src/lib.rt:84:1
 returns-5 : tie.Need-returns-5
 unfolding advanced
 returns-5 c = sym (ap (λ (s : Step). advanced s (c .before .before .args .r)) (c .enum-told3 .given .1))
 
--- src/lib.rt:84:1
 returns-6 : tie.Need-returns-6
 unfolding advanced
 returns-6 c = sym (ap (λ (s : Step). advanced s (c .before .before .args .r)) (c .enum-told4 .given .1))

@@ -1,6 +1,6 @@
 -- `listing::close` meets its contract: each line stands behind the one before it.
 -- Assumes nothing.
-use mathlib.Core.Path.{_≡_, refl, sym, ap, _∙_}
+use mathlib.Core.Path.{_≡_}
 use mathlib.Core.Bool.{Bool}
 use mathlib.Core.List.{List, _++_}
 use Prim.Native.Nat.{ℕ, _+_, _≤_}
@@ -18,14 +18,6 @@ use Rattle.listing.specs.Listing.{restLineBy, closingLines, closingBy, c
 use borrow.Author.Needs.{needs}
 use Rattle.listing.proofs.close.Statement.{statement}
 use Rattle.listing.proofs.close.Tie as tie
-use Rattle.listing.proofs.close.Reads as reads
-use Rattle.listing.proofs.close.Lts as lts
-use Rattle.comparison.proofs.answer.ends_by.Reads as ends-by-reads
-use Rattle.comparison.proofs.answer.likeness_by.Reads as likeness-by-reads
-use Rattle.comparison.proofs.answer.longer_of.Reads as longer-of-reads
-use Rattle.listing.proofs.put_rest_of.Reads as put-rest-of-reads
-use Rattle.text.proofs.put_ends.Reads as put-ends-reads
-use Rattle.text.proofs.put_likeness.Reads as put-likeness-reads
 
 -- three short lines, one behind the other
 three : (x y z o₀ o₁ ys zs : List ℕ) (n m k : ℕ) → closingRoom ≤ length o₀ → Written x n o₀ o₁ × (n ≤ shortRoom) → Written y m (restOf o₁ n) ys × (m ≤ shortRoom)
@@ -51,67 +43,51 @@ closes s number alike first second e l g o₀ o₁ ys zs n m k f h i room a b c 
     rw (← told s number alike first second e l g f h i)
     (three (endsLine e) (restLineBy g first second) (likenessLine l) o₀ o₁ ys zs n m k room a b c)
 
--- src/lib.rt:159:9
 ends-by-requires : tie.Need-ends-by-requires
 ends-by-requires c κs = search needs
 
--- src/lib.rt:160:9
 likeness-by-requires : tie.Need-likeness-by-requires
 likeness-by-requires c κs = search needs
 
--- src/lib.rt:161:9
 put-ends-requires : tie.Need-put-ends-requires
 put-ends-requires c κs = search needs
 
--- src/lib.rt:162:33
 longer-of-requires : tie.Need-longer-of-requires
 longer-of-requires c κs = search needs
 
--- src/lib.rt:162:66
 sub-put-rest-of : tie.Need-sub-put-rest-of
 sub-put-rest-of c = search needs
 
--- src/lib.rt:162:66
 part-put-rest-of-start : tie.Need-part-put-rest-of-start
 part-put-rest-of-start c = search needs
 
--- src/lib.rt:162:66
 part-put-rest-of-end : tie.Need-part-put-rest-of-end
 part-put-rest-of-end c = search needs
 
--- src/lib.rt:162:21
 put-rest-of-requires : tie.Need-put-rest-of-requires
 put-rest-of-requires c κs = search needs
 
--- src/lib.rt:162:15
 add-two : tie.Need-add-two
 add-two c = search needs
 
--- src/lib.rt:163:40
 sub-put-likeness : tie.Need-sub-put-likeness
 sub-put-likeness c = search needs
 
--- src/lib.rt:163:40
 part-put-likeness-start : tie.Need-part-put-likeness-start
 part-put-likeness-start c = search needs
 
--- src/lib.rt:163:40
 part-put-likeness-end : tie.Need-part-put-likeness-end
 part-put-likeness-end c = search needs
 
--- src/lib.rt:163:9
 put-likeness-requires : tie.Need-put-likeness-requires
 put-likeness-requires c κs = search needs
 
--- src/lib.rt:164:5
 add-result : tie.Need-add-result
 add-result c = search needs
 
--- src/lib.rt:155:1
 same-length : tie.Need-same-length
 same-length c = search needs
 
--- src/lib.rt:155:1
 returns : tie.Need-returns
 returns c =
     let start = c .before .before .before .before .before .before .before .before .before .before .before .before .before .before .before .before in

@@ -1,6 +1,6 @@
 -- `listing::put_line` meets its contract: the line has the records that stand at both places.
 -- Assumes nothing.
-use mathlib.Core.Path.{_≡_, sym}
+use mathlib.Core.Path.{_≡_}
 use mathlib.Core.List.{List}
 use Prim.Native.Nat.{ℕ, _+_, _≤_}
 use Rattle.rules.specs.Buffers.{Written}
@@ -13,10 +13,6 @@ use Rattle.listing.specs.declared.Reach.{Reach}
 use borrow.Author.Needs.{needs}
 use Rattle.listing.proofs.put_line.Statement.{statement}
 use Rattle.listing.proofs.put_line.Tie as tie
-use Rattle.listing.proofs.put_line.Reads as reads
-use Rattle.listing.proofs.put_line.Lts as lts
-use Rattle.listing.proofs.record_in.Reads as record-in-reads
-use Rattle.text.proofs.put_differs.Reads as put-differs-reads
 
 written-at : (b : Begins) (here there : List ℕ) (r : Reach) (x y : Record) (n : ℕ) (o₀ o : List ℕ) → x ≡ recordAt here (r .first) → y ≡ recordAt there (r .second)
     → Written (differsLine (r .number) (b .first + r .first) (b .second + r .second) x y) n o₀ o × (n ≤ differsRoom)
@@ -24,31 +20,24 @@ written-at : (b : Begins) (here there : List ℕ) (r : Reach) (x y : Record) (n 
 unfolding differsAt
 written-at b here there r x y n o₀ o e f w = rw (← e, ← f) w
 
--- src/lib.rt:58:9
 add-put-differs : tie.Need-add-put-differs
 add-put-differs c = search needs
 
--- src/lib.rt:59:9
 add-put-differs-2 : tie.Need-add-put-differs-2
 add-put-differs-2 c = search needs
 
--- src/lib.rt:60:9
 record-in-requires : tie.Need-record-in-requires
 record-in-requires c κs = search needs
 
--- src/lib.rt:61:9
 record-in-requires-2 : tie.Need-record-in-requires-2
 record-in-requires-2 c κs = search needs
 
--- src/lib.rt:56:5
 put-differs-requires : tie.Need-put-differs-requires
 put-differs-requires c κs = search needs
 
--- src/lib.rt:50:1
 same-length : tie.Need-same-length
 same-length c = search needs
 
--- src/lib.rt:50:1
 returns : tie.Need-returns
 returns c =
     let start = c .before .before .before .before .before .before .before .before .before .before .before in

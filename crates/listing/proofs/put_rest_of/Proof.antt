@@ -4,57 +4,42 @@ use Rattle.listing.specs.Listing.{restLineBy}
 use borrow.Author.Needs.{needs}
 use Rattle.listing.proofs.put_rest_of.Statement.{statement}
 use Rattle.listing.proofs.put_rest_of.Tie as tie
-use Rattle.listing.proofs.put_rest_of.Reads as reads
-use Rattle.listing.proofs.put_rest_of.Lts as lts
-use Rattle.text.proofs.put_rest.Reads as put-rest-reads
 
--- src/lib.rt:148:35
 enum-told : tie.Need-enum-told
 enum-told c = search needs
 
--- src/lib.rt:148:26
 put-rest-requires : tie.Need-put-rest-requires
 put-rest-requires c κs = search needs
 
--- src/lib.rt:149:36
 enum-told-2 : tie.Need-enum-told-2
 enum-told-2 c = search needs
 
--- src/lib.rt:149:27
 put-rest-requires-2 : tie.Need-put-rest-requires-2
 put-rest-requires-2 c κs = search needs
 
--- src/lib.rt:150:37
 enum-told-3 : tie.Need-enum-told-3
 enum-told-3 c = search needs
 
--- src/lib.rt:150:28
 put-rest-requires-3 : tie.Need-put-rest-requires-3
 put-rest-requires-3 c κs = search needs
 
--- src/lib.rt:143:1
 same-length : tie.Need-same-length
 same-length c = search needs
 
--- src/lib.rt:143:1
 returns : tie.Need-returns
 unfolding restLineBy
 returns c = rw (c .before .before .before .before .enum-told .given .1) (c .before .before .put-rest .ensures)
 
--- src/lib.rt:143:1
 same-length-2 : tie.Need-same-length-2
 same-length-2 c = search needs
 
--- src/lib.rt:143:1
 returns-2 : tie.Need-returns-2
 unfolding restLineBy
 returns-2 c = rw (c .before .before .before .before .enum-told2 .given .1) (c .before .before .put-rest2 .ensures)
 
--- src/lib.rt:143:1
 same-length-3 : tie.Need-same-length-3
 same-length-3 c = search needs
 
--- src/lib.rt:143:1
 returns-3 : tie.Need-returns-3
 unfolding restLineBy
 returns-3 c = rw (c .before .before .before .before .enum-told3 .given .1) (c .before .before .put-rest3 .ensures)

@@ -17,9 +17,6 @@ use Rattle.listing.specs.Listing.{WholeHere, lineBy}
 use borrow.Author.Needs.{needs}
 use Rattle.listing.proofs.put_step.Statement.{statement}
 use Rattle.listing.proofs.put_step.Tie as tie
-use Rattle.listing.proofs.put_step.Reads as reads
-use Rattle.listing.proofs.put_step.Lts as lts
-use Rattle.listing.proofs.put_line.Reads as put-line-reads
 
 -- the two records of a pair that differs
 whole-here : {trace : List ℕ} {at kind next : ℕ} → WholeAt trace at kind next → WholeHere trace at kind
@@ -43,77 +40,63 @@ both-stand first p second q s e f = stand (rw (sym e ∙ f) at (each-step first 
 nothing : (x : List ℕ) (o : List ℕ) → x ≡ [] → Written x 0 o o × (0 ≤ differsRoom)
 nothing x o e = rw e ((refl, refl), omega arith)
 
--- src/lib.rt:72:29
 enum-told : tie.Need-enum-told
 enum-told c = search needs
 
--- src/lib.rt:73:23
 enum-known-s : tie.Need-enum-known-s
 enum-known-s c = search needs
 
--- src/lib.rt:73:38
 put-line-requires : tie.Need-put-line-requires
 put-line-requires c κs =
     let start = c .before .before .before .before .before .before .before in
     let w = both-stand _ _ _ _ _ (start .pre .1 .0) (c .before .before .s .given .1) in
     (start .pre .0, (w .0, (w .1, start .pre .1 .1)))
 
--- src/lib.rt:74:28
 enum-told-2 : tie.Need-enum-told-2
 enum-told-2 c = search needs
 
--- src/lib.rt:75:29
 enum-told-3 : tie.Need-enum-told-3
 enum-told-3 c = search needs
 
--- src/lib.rt:76:26
 enum-told-4 : tie.Need-enum-told-4
 enum-told-4 c = search needs
 
--- src/lib.rt:77:32
 enum-told-5 : tie.Need-enum-told-5
 enum-told-5 c = search needs
 
--- src/lib.rt:67:1
 returns : tie.Need-returns
 unfolding lineBy
 returns c =
     let start = c .before .before .before .before .before in
     nothing _ (start .args .out .now) (ap (λ (s : Step). lineBy (start .args .b) (start .args .here .now) (start .args .there .now) s (start .args .r)) (c .enum-told .given .1))
 
--- src/lib.rt:67:1
 same-length : tie.Need-same-length
 same-length c = search needs
 
--- src/lib.rt:67:1
 returns-2 : tie.Need-returns-2
 unfolding lineBy
 returns-2 c =
     let start = c .before .before .before .before .before .before .before .before .before .before in
     rw (c .before .before .before .before .before .s .given .1) (c .before .before .put-line .ensures)
 
--- src/lib.rt:67:1
 returns-3 : tie.Need-returns-3
 unfolding lineBy
 returns-3 c =
     let start = c .before .before .before .before .before in
     nothing _ (start .args .out .now) (ap (λ (s : Step). lineBy (start .args .b) (start .args .here .now) (start .args .there .now) s (start .args .r)) (c .enum-told2 .given .1))
 
--- src/lib.rt:67:1
 returns-4 : tie.Need-returns-4
 unfolding lineBy
 returns-4 c =
     let start = c .before .before .before .before .before in
     nothing _ (start .args .out .now) (ap (λ (s : Step). lineBy (start .args .b) (start .args .here .now) (start .args .there .now) s (start .args .r)) (c .enum-told3 .given .1))
 
--- src/lib.rt:67:1
 returns-5 : tie.Need-returns-5
 unfolding lineBy
 returns-5 c =
     let start = c .before .before .before .before .before in
     nothing _ (start .args .out .now) (ap (λ (s : Step). lineBy (start .args .b) (start .args .here .now) (start .args .there .now) s (start .args .r)) (c .enum-told4 .given .1))
 
--- src/lib.rt:67:1
 returns-6 : tie.Need-returns-6
 unfolding lineBy
 returns-6 c =

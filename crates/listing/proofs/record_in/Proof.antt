@@ -1,32 +1,25 @@
 -- `listing::record_in` meets its contract: the record that stands here is whole.
 -- Assumes nothing.
-use mathlib.Core.Path.{_≡_, sym, ap, _∙_}
+use mathlib.Core.Path.{ap, _∙_}
 use mathlib.Core.List.{List}
 use Prim.Native.Nat.{ℕ, _+_, _≤_}
-use native.Mathlib.Omega.{arith}
-use lib.ListN.{length, getD, drop}
+use lib.ListN.{length, drop}
 use borrow.Author.Needs.{needs}
 use Rattle.rules.specs.Trace.{layout, total, recordOf, fieldsFrom, behind}
 use Rattle.listing.specs.Listing.{WholeHere}
 use Rattle.listing.proofs.record_in.Statement.{statement}
 use Rattle.listing.proofs.record_in.Tie as tie
-use Rattle.listing.proofs.record_in.Reads as reads
-use Rattle.listing.proofs.record_in.Lts as lts
-use Rattle.trace.proofs.decoder.record_at.Reads as record-at-reads
 
 body-inside : {part : List ℕ} {at kind : ℕ} → WholeHere part at kind → at + 1 + total (layout kind) ≤ length part
 unfolding behind
 body-inside w = rw (w .kind-here) (w .inside)
 
--- src/lib.rt:46:30
 add-record-at : tie.Need-add-record-at
 add-record-at c = let inside = body-inside (c .before .pre) in search needs
 
--- src/lib.rt:46:5
 record-at-requires : tie.Need-record-at-requires
 record-at-requires c κs = (c .before .pre .known, body-inside (c .before .pre))
 
--- src/lib.rt:42:1
 returns : tie.Need-returns
 returns c =
     let part = c .before .before .args .part .now in

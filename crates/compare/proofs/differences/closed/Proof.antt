@@ -5,93 +5,65 @@ use borrow.Author.Tests.{not-false}
 use borrow.Author.Needs.{needs}
 use Rattle.compare.proofs.differences.closed.Statement.{statement}
 use Rattle.compare.proofs.differences.closed.Tie as tie
-use Rattle.compare.proofs.differences.closed.Reads as reads
-use Rattle.compare.proofs.differences.closed.Lts as lts
-use Rattle.compare.proofs.differences.is_unchanged.Reads as is-unchanged-reads
-use Rattle.compare.proofs.differences.outcome_of.Reads as outcome-of-reads
-use Rattle.compare.proofs.differences.reach.Reads as reach-reads
-use Rattle.compare.proofs.differences.step_at.Reads as step-at-reads
-use Rattle.comparison.proofs.answer.likeness_by.Reads as likeness-by-reads
-use Rattle.host.proofs.descriptor.write.Reads as write-reads
-use Rattle.listing.proofs.close.Reads as close-reads
 
--- src/differences.rt:309:9
 step-at-requires : tie.Need-step-at-requires
 step-at-requires c κs = search needs
 
--- src/differences.rt:312:13
 add-p : tie.Need-add-p
 add-p c = search needs
 
--- src/differences.rt:313:13
 add-q : tie.Need-add-q
 add-q c = search needs
 
--- src/differences.rt:314:9
 is-unchanged-requires : tie.Need-is-unchanged-requires
 is-unchanged-requires c κs = search needs
 
--- src/differences.rt:315:9
 returns : tie.Need-returns
 returns c = search needs
 
--- src/differences.rt:318:17
 sub-t16 : tie.Need-sub-t16
 sub-t16 c =
     let inside = c .before .before .is-unchanged .ensures (not-false _ (c .before .if1 .left)) in
     omega (arith, inside .0)
 
--- src/differences.rt:319:18
 sub-t18 : tie.Need-sub-t18
 sub-t18 c =
     let inside = c .before .before .before .is-unchanged .ensures (not-false _ (c .before .before .if1 .left)) in
     omega (arith, inside .1)
 
--- src/differences.rt:321:27
 reach-requires : tie.Need-reach-requires
 reach-requires c κs = search needs
 
--- src/differences.rt:321:9
 close-requires : tie.Need-close-requires
 close-requires c κs = search needs
 
--- src/differences.rt:322:36
 sub-write : tie.Need-sub-write
 sub-write c = search needs
 
--- src/differences.rt:322:36
 part-write-start : tie.Need-part-write-start
 part-write-start c = search needs
 
--- src/differences.rt:322:36
 part-write-end : tie.Need-part-write-end
 part-write-end c = search needs
 
--- src/differences.rt:322:9
 write-requires : tie.Need-write-requires
 write-requires c κs = search needs
 
--- src/differences.rt:324:9
 same-length : tie.Need-same-length
 same-length c = search needs
 
--- src/differences.rt:324:9
 returns-2 : tie.Need-returns-2
 returns-2 c = search needs
 
--- src/differences.rt:326:16
 likeness-by-requires : tie.Need-likeness-by-requires
 likeness-by-requires c κs = search needs
 
--- src/differences.rt:326:5
 outcome-of-requires : tie.Need-outcome-of-requires
 outcome-of-requires c κs = search needs
 
--- src/differences.rt:306:1
 same-length-2 : tie.Need-same-length-2
 same-length-2 c = search needs
 
--- src/differences.rt:306:1
 returns-3 : tie.Need-returns-3
 returns-3 c = search needs
 

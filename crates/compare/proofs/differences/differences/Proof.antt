@@ -1,23 +1,12 @@
 -- `compare::differences::differences` is safe and ends: the measure is how many rounds are left.
 -- Assumes nothing.
 use mathlib.Core.Path.{_≡_, sym, _∙_}
-use Prim.Native.Nat.{ℕ}
-use native.Mathlib.Omega.{arith}
 use lib.ListN.{length}
 use borrow.Author.Needs.{needs}
 use Rattle.compare.specs.Rounds.{Stands}
 use Rattle.compare.proofs.Stand.{fresh-stands, round-stands}
 use Rattle.compare.proofs.differences.differences.Statement.{statement}
 use Rattle.compare.proofs.differences.differences.Tie as tie
-use Rattle.compare.proofs.differences.differences.Reads as reads
-use Rattle.compare.proofs.differences.differences.Lts as lts
-use Rattle.compare.proofs.differences.closed.Reads as closed-reads
-use Rattle.compare.proofs.differences.fresh.Reads as fresh-reads
-use Rattle.compare.proofs.differences.round.Reads as round-reads
-use Rattle.compare.proofs.differences.total.Reads as total-reads
-use Rattle.compare.proofs.said.progress.Reads as progress-reads
-use Rattle.host.proofs.said.no_progress.Reads as no-progress-reads
-use Rattle.io.proofs.large_buffer.Reads as large-buffer-reads
 
 abbrev Inv-loop : tie.InvT-loop
 Inv-loop first second lengths watch a₀ b₀ out₀ s₀ rounds₀ a b out s rounds =
@@ -26,60 +15,46 @@ Inv-loop first second lengths watch a₀ b₀ out₀ s₀ rounds₀ a b out s ro
 abbrev μ-loop : tie.MeasureT-loop
 μ-loop first second lengths watch a₀ b₀ out₀ s₀ rounds₀ a b out s rounds = rounds
 
--- src/differences.rt:331:17
 large-buffer-requires : tie.Need-large-buffer-requires Inv-loop μ-loop
 large-buffer-requires c κs = search needs
 
--- src/differences.rt:332:17
 large-buffer-requires-2 : tie.Need-large-buffer-requires-2 Inv-loop μ-loop
 large-buffer-requires-2 c κs = search needs
 
--- src/differences.rt:333:19
 large-buffer-requires-3 : tie.Need-large-buffer-requires-3 Inv-loop μ-loop
 large-buffer-requires-3 c κs = search needs
 
--- src/differences.rt:334:9
 fresh-requires : tie.Need-fresh-requires Inv-loop μ-loop
 fresh-requires c κs = search needs
 
--- src/differences.rt:336:5
 loop-holds : tie.Need-loop-holds Inv-loop μ-loop
 loop-holds c =
     (fresh-stands (c .fresh .ensures), sym (c .before .before .before .large-buffer .ensures), sym (c .before .before .large-buffer2 .ensures), sym (c .before .large-buffer3 .ensures))
 
--- src/differences.rt:337:29
 slice-aggregate-round : tie.Need-slice-aggregate-round Inv-loop μ-loop
 slice-aggregate-round c = search needs
 
--- src/differences.rt:337:37
 slice-aggregate-round-2 : tie.Need-slice-aggregate-round-2 Inv-loop μ-loop
 slice-aggregate-round-2 c = search needs
 
--- src/differences.rt:337:45
 slice-aggregate-round-3 : tie.Need-slice-aggregate-round-3 Inv-loop μ-loop
 slice-aggregate-round-3 c = search needs
 
--- src/differences.rt:337:9
 round-requires : tie.Need-round-requires Inv-loop μ-loop
 round-requires c κs = search needs
 
--- src/differences.rt:339:22
 total-requires : tie.Need-total-requires Inv-loop μ-loop
 total-requires c κs = search needs
 
--- src/differences.rt:339:13
 progress-requires : tie.Need-progress-requires Inv-loop μ-loop
 progress-requires c κs = search needs
 
--- src/differences.rt:341:9
 sub-rounds : tie.Need-sub-rounds Inv-loop μ-loop
 sub-rounds c = search needs
 
--- src/differences.rt:336:5
 loop-less : tie.Need-loop-less Inv-loop μ-loop
 loop-less c = search needs
 
--- src/differences.rt:336:5
 loop-again : tie.Need-loop-again Inv-loop μ-loop
 loop-again c =
     let round = c .before .before .before .before .round in
@@ -89,59 +64,45 @@ loop-again c =
     let three : length (round .last .1 .1 .1 .1 .0) ≡ 65536 = round .kept .1 .1 .1 .1 .0 ∙ inv .3 in
     (rw (one, two) at (round-stands (round .ensures)), one, two, three)
 
--- src/differences.rt:344:21
 total-requires-2 : tie.Need-total-requires-2 Inv-loop μ-loop
 total-requires-2 c κs = search needs
 
--- src/differences.rt:344:9
 no-progress-requires : tie.Need-no-progress-requires Inv-loop μ-loop
 no-progress-requires c κs = search needs
 
--- src/differences.rt:348:41
 enum-told : tie.Need-enum-told Inv-loop μ-loop
 enum-told c = search needs
 
--- src/differences.rt:348:41
 slice-aggregate-closed : tie.Need-slice-aggregate-closed Inv-loop μ-loop
 slice-aggregate-closed c = search needs
 
--- src/differences.rt:348:45
 slice-aggregate-closed-2 : tie.Need-slice-aggregate-closed-2 Inv-loop μ-loop
 slice-aggregate-closed-2 c = search needs
 
--- src/differences.rt:348:49
 slice-aggregate-closed-3 : tie.Need-slice-aggregate-closed-3 Inv-loop μ-loop
 slice-aggregate-closed-3 c = search needs
 
--- src/differences.rt:348:22
 closed-requires : tie.Need-closed-requires Inv-loop μ-loop
 closed-requires c κs = search needs
 
--- src/differences.rt:349:29
 enum-told-2 : tie.Need-enum-told-2 Inv-loop μ-loop
 enum-told-2 c = search needs
 
--- src/differences.rt:350:30
 enum-told-3 : tie.Need-enum-told-3 Inv-loop μ-loop
 enum-told-3 c = search needs
 
--- src/differences.rt:351:27
 enum-told-4 : tie.Need-enum-told-4 Inv-loop μ-loop
 enum-told-4 c = search needs
 
--- src/differences.rt:330:1
 returns : tie.Need-returns Inv-loop μ-loop
 returns c = search needs
 
--- src/differences.rt:330:1
 returns-2 : tie.Need-returns-2 Inv-loop μ-loop
 returns-2 c = search needs
 
--- src/differences.rt:330:1
 returns-3 : tie.Need-returns-3 Inv-loop μ-loop
 returns-3 c = search needs
 
--- src/differences.rt:330:1
 returns-4 : tie.Need-returns-4 Inv-loop μ-loop
 returns-4 c = search needs
 

@@ -1,37 +1,26 @@
 -- `compare::differences::more_first` meets its contract.
 -- Assumes nothing.
 use mathlib.Core.Path.{refl}
-use borrow.Author.Tests.{not-false}
 use Rattle.compare.specs.Rounds.FirstMore.{read-on, unread}
 use borrow.Author.Needs.{needs}
 use Rattle.compare.proofs.differences.more_first.Statement.{statement}
 use Rattle.compare.proofs.differences.more_first.Tie as tie
-use Rattle.compare.proofs.differences.more_first.Reads as reads
-use Rattle.compare.proofs.differences.more_first.Lts as lts
-use Rattle.compare.proofs.differences.ended.Reads as ended-reads
-use Rattle.compare.proofs.side.refill.Reads as refill-reads
 
--- src/differences.rt:121:9
 refill-requires : tie.Need-refill-requires
 refill-requires c κs = search needs
 
--- src/differences.rt:123:9
 ended-requires : tie.Need-ended-requires
 ended-requires c κs = search needs
 
--- src/differences.rt:123:9
 same-length : tie.Need-same-length
 same-length c = search needs
 
--- src/differences.rt:123:9
 returns : tie.Need-returns
 returns c = unread (c .ended .ensures)
 
--- src/differences.rt:116:1
 same-length-2 : tie.Need-same-length-2
 same-length-2 c = search needs
 
--- src/differences.rt:116:1
 returns-2 : tie.Need-returns-2
 returns-2 c =
     let r = c .before .before .before .before .refill .ensures in

@@ -1,7 +1,6 @@
 -- `compare::differences::onward` meets its contract: a side whose next record is not whole is read on, and else nothing changes.
 -- Assumes nothing.
 use mathlib.Core.Path.{refl, sym, ap, _∙_}
-use borrow.Author.Tests.{not-true, not-false}
 use Rattle.comparison.specs.Compare.{isPair}
 use Rattle.compare.specs.Rounds.Next.{first-more, second-more, stays, over}
 use Rattle.compare.specs.declared.differences.End.the-variants.{Over}
@@ -9,28 +8,16 @@ use Rattle.compare.proofs.Stand.{first-stands, second-stands, stands-en
 use borrow.Author.Needs.{needs}
 use Rattle.compare.proofs.differences.onward.Statement.{statement}
 use Rattle.compare.proofs.differences.onward.Tie as tie
-use Rattle.compare.proofs.differences.onward.Reads as reads
-use Rattle.compare.proofs.differences.onward.Lts as lts
-use Rattle.compare.proofs.differences.ended.Reads as ended-reads
-use Rattle.compare.proofs.differences.more_first.Reads as more-first-reads
-use Rattle.compare.proofs.differences.more_second.Reads as more-second-reads
-use Rattle.compare.proofs.differences.step_at.Reads as step-at-reads
-use Rattle.compare.proofs.differences.wants.Reads as wants-reads
-use Rattle.comparison.proofs.both.is_pair.Reads as is-pair-reads
 
--- src/differences.rt:185:8
 wants-requires : tie.Need-wants-requires
 wants-requires c κs = search needs
 
--- src/differences.rt:186:9
 more-first-requires : tie.Need-more-first-requires
 more-first-requires c κs = search needs
 
--- src/differences.rt:186:9
 same-length : tie.Need-same-length
 same-length c = search needs
 
--- src/differences.rt:186:9
 returns : tie.Need-returns
 returns c =
     record {
@@ -38,23 +25,18 @@ returns c =
       next = first-more (c .before .before .more-first .ensures) refl;
     }
 
--- src/differences.rt:188:8
 wants-requires-2 : tie.Need-wants-requires-2
 wants-requires-2 c κs = search needs
 
--- src/differences.rt:189:9
 more-second-requires : tie.Need-more-second-requires
 more-second-requires c κs = search needs
 
--- src/differences.rt:189:9
 same-length-2 : tie.Need-same-length-2
 same-length-2 c = search needs
 
--- src/differences.rt:189:9
 same-length-3 : tie.Need-same-length-3
 same-length-3 c = search needs
 
--- src/differences.rt:189:9
 returns-2 : tie.Need-returns-2
 returns-2 c =
     record {
@@ -62,39 +44,30 @@ returns-2 c =
       next = second-more (c .before .before .more-second .ensures) refl;
     }
 
--- src/differences.rt:191:16
 step-at-requires : tie.Need-step-at-requires
 step-at-requires c κs = search needs
 
--- src/differences.rt:191:8
 is-pair-requires : tie.Need-is-pair-requires
 is-pair-requires c κs = search needs
 
--- src/differences.rt:192:9
 same-length-4 : tie.Need-same-length-4
 same-length-4 c = search needs
 
--- src/differences.rt:192:9
 same-length-5 : tie.Need-same-length-5
 same-length-5 c = search needs
 
--- src/differences.rt:192:9
 returns-3 : tie.Need-returns-3
 returns-3 c = record { stands = c .before .before .before .before .before .before .before .before .before .before .before .before .before .before .before .pre .0; next = stays refl refl refl }
 
--- src/differences.rt:194:5
 ended-requires : tie.Need-ended-requires
 ended-requires c κs = search needs
 
--- src/differences.rt:179:1
 same-length-6 : tie.Need-same-length-6
 same-length-6 c = search needs
 
--- src/differences.rt:179:1
 same-length-7 : tie.Need-same-length-7
 same-length-7 c = search needs
 
--- src/differences.rt:179:1
 returns-4 : tie.Need-returns-4
 returns-4 c =
     rw (c .ended .ensures)

@@ -1,6 +1,6 @@
 -- `compare::differences::round` meets its contract: the walk goes on where the writes took all lines.
 -- Assumes nothing.
-use mathlib.Core.Path.{_≡_, refl, sym, ap, _∙_}
+use mathlib.Core.Path.{_≡_, refl, _∙_}
 use mathlib.Core.Bool.{true}
 use mathlib.Core.List.{List}
 use Prim.Native.Nat.{ℕ, _≤_, _<_}
@@ -15,14 +15,6 @@ use Rattle.compare.proofs.Stand.{stands-there, stands-ended}
 use borrow.Author.Needs.{needs}
 use Rattle.compare.proofs.differences.round.Statement.{statement}
 use Rattle.compare.proofs.differences.round.Tie as tie
-use Rattle.compare.proofs.differences.round.Reads as reads
-use Rattle.compare.proofs.differences.round.Lts as lts
-use Rattle.compare.proofs.differences.cleared.Reads as cleared-reads
-use Rattle.compare.proofs.differences.ended.Reads as ended-reads
-use Rattle.compare.proofs.differences.onward.Reads as onward-reads
-use Rattle.compare.proofs.differences.reached.Reads as reached-reads
-use Rattle.compare.proofs.differences.told.Reads as told-reads
-use Rattle.host.proofs.descriptor.write.Reads as write-reads
 
 module _ (s : Standing) (a b : List ℕ) (l : Listed) (put : ℕ) (o₀ o : List ℕ) (v : Stands s (length a) (length b)) (told : Told s a b l o₀ o)
     (after : Standing) (there : after ≡ reachedBy (l .reach) put s) where
@@ -39,71 +31,54 @@ module _ (s : Standing) (a b : List ℕ) (l : Listed) (put : ℕ) (o₀ o : List
       there ∙ rw (told .reached, same ∙ told .lines .0) in
       wrote (rw is at on)
 
--- src/differences.rt:233:9
 told-requires : tie.Need-told-requires
 told-requires c κs = search needs
 
--- src/differences.rt:235:5
 cleared-requires : tie.Need-cleared-requires
 cleared-requires c κs = search needs
 
--- src/differences.rt:236:36
 sub-write : tie.Need-sub-write
 sub-write c = search needs
 
--- src/differences.rt:236:36
 part-write-start : tie.Need-part-write-start
 part-write-start c = search needs
 
--- src/differences.rt:236:36
 part-write-end : tie.Need-part-write-end
 part-write-end c = search needs
 
--- src/differences.rt:236:9
 write-requires : tie.Need-write-requires
 write-requires c κs = search needs
 
--- src/differences.rt:238:9
 reached-requires : tie.Need-reached-requires
 reached-requires c κs = search needs
 
--- src/differences.rt:240:9
 ended-requires : tie.Need-ended-requires
 ended-requires c κs = search needs
 
--- src/differences.rt:240:9
 same-length : tie.Need-same-length
 same-length c = search needs
 
--- src/differences.rt:240:9
 same-length-2 : tie.Need-same-length-2
 same-length-2 c = search needs
 
--- src/differences.rt:240:9
 same-length-3 : tie.Need-same-length-3
 same-length-3 c = search needs
 
--- src/differences.rt:240:9
 returns : tie.Need-returns
 returns c = lost _ _ _ _ _ _ _ (c .before .before .before .before .before .before .before .before .before .before .before .before .before .before .before .before .before .pre) (c .before .before .before .before .before .before .before .before .before .before .told .ensures) _ (c .before .before .reached .ensures) _ (c .ended .ensures)
 
--- src/differences.rt:242:5
 onward-requires : tie.Need-onward-requires
 onward-requires c κs = stand _ _ _ _ _ _ _ (c .before .before .before .before .before .before .before .before .before .before .before .before .before .before .before .before .before .before .pre) (c .before .before .before .before .before .before .before .before .before .before .before .told .ensures) _ (c .before .before .before .reached .ensures)
 
--- src/differences.rt:229:1
 same-length-4 : tie.Need-same-length-4
 same-length-4 c = search needs
 
--- src/differences.rt:229:1
 same-length-5 : tie.Need-same-length-5
 same-length-5 c = search needs
 
--- src/differences.rt:229:1
 same-length-6 : tie.Need-same-length-6
 same-length-6 c = c .before .before .before .before .before .before .before .before .before .before .before .before .before .before .before .out .given
 
--- src/differences.rt:229:1
 returns-2 : tie.Need-returns-2
 returns-2 c =
     let start = c .before .before .before .before .before .before .before .before .before .before .before .before .before .before .before .before .before .before .before .before .before .before .before in

@@ -5,23 +5,16 @@ use Rattle.compare.proofs.Stand.{all-held}
 use borrow.Author.Needs.{needs}
 use Rattle.compare.proofs.differences.step_at.Statement.{statement}
 use Rattle.compare.proofs.differences.step_at.Tie as tie
-use Rattle.compare.proofs.differences.step_at.Reads as reads
-use Rattle.compare.proofs.differences.step_at.Lts as lts
-use Rattle.comparison.proofs.both.step.Reads as step-reads
 
--- src/differences.rt:175:10
 slice-aggregate-step : tie.Need-slice-aggregate-step
 slice-aggregate-step c = sym (all-held _ (c .before .before .before .before .before .pre .first-inside))
 
--- src/differences.rt:175:35
 slice-aggregate-step-2 : tie.Need-slice-aggregate-step-2
 slice-aggregate-step-2 c = sym (all-held _ (c .before .before .before .before .before .before .pre .second-inside))
 
--- src/differences.rt:175:5
 step-requires : tie.Need-step-requires
 step-requires c κs = search needs
 
--- src/differences.rt:167:1
 returns : tie.Need-returns
 returns c = search needs
 

@@ -13,41 +13,29 @@ use Rattle.compare.proofs.Stand.{all-held, holds}
 use borrow.Author.Needs.{needs}
 use Rattle.compare.proofs.differences.told.Statement.{statement}
 use Rattle.compare.proofs.differences.told.Tie as tie
-use Rattle.compare.proofs.differences.told.Reads as reads
-use Rattle.compare.proofs.differences.told.Lts as lts
-use Rattle.compare.proofs.differences.begins.Reads as begins-reads
-use Rattle.compare.proofs.differences.reach.Reads as reach-reads
-use Rattle.listing.proofs.list.Reads as list-reads
 
 told-so : (s : Standing) (b : Begins) (r : Reach) (here there : List ℕ) (l : Listed) (o₀ o : List ℕ) → b ≡ beginsOf s → r ≡ reachOf s → Lists b here there r l o₀ o
     → Lists (beginsOf s) here there (reachOf s) l o₀ o
 told-so s b r here there l o₀ o e f t = rw (← e, ← f) t
 
--- src/differences.rt:96:10
 begins-requires : tie.Need-begins-requires
 begins-requires c κs = search needs
 
--- src/differences.rt:96:21
 slice-aggregate-list : tie.Need-slice-aggregate-list
 slice-aggregate-list c = sym (all-held _ (c .before .before .before .before .before .before .before .pre .first-inside))
 
--- src/differences.rt:96:33
 slice-aggregate-list-2 : tie.Need-slice-aggregate-list-2
 slice-aggregate-list-2 c = sym (all-held _ (c .before .before .before .before .before .before .before .before .pre .second-inside))
 
--- src/differences.rt:96:46
 reach-requires : tie.Need-reach-requires
 reach-requires c κs = search needs
 
--- src/differences.rt:96:5
 list-requires : tie.Need-list-requires
 list-requires c κs = rw (c .before .before .before .before .begins .ensures, c .before .reach .ensures) (holds _ _ _ (c .before .before .before .before .before .before .before .before .before .before .pre))
 
--- src/differences.rt:88:1
 same-length : tie.Need-same-length
 same-length c = search needs
 
--- src/differences.rt:88:1
 returns : tie.Need-returns
 returns c = told-so (c .before .before .before .before .before .before .before .before .before .before .before .before .before .args .s) _ _ _ _ _ _ _ (c .before .before .before .before .before .before .before .begins .ensures) (c .before .before .before .before .reach .ensures) (c .before .before .list .ensures)
 

@@ -1,6 +1,6 @@
 -- `compare::errors::scanned` meets its contract: the records that are held are passed inside.
 -- Assumes nothing.
-use mathlib.Core.Path.{_≡_, refl, sym, ap, _∙_}
+use mathlib.Core.Path.{_≡_, sym, ap, _∙_}
 use mathlib.Core.Bool.{Bool, not}
 use mathlib.Core.List.{List}
 use Prim.Native.Nat.{ℕ, _≤_}
@@ -14,12 +14,6 @@ use Rattle.compare.proofs.Stand.{all-held}
 use borrow.Author.Needs.{needs}
 use Rattle.compare.proofs.errors.scanned.Statement.{statement}
 use Rattle.compare.proofs.errors.scanned.Tie as tie
-use Rattle.compare.proofs.errors.scanned.Reads as reads
-use Rattle.compare.proofs.errors.scanned.Lts as lts
-use Rattle.compare.proofs.side.passed.Reads as passed-reads
-use Rattle.compare.proofs.side.wants_bytes.Reads as wants-bytes-reads
-use Rattle.comparison.proofs.one.extent.Reads as extent-reads
-use Rattle.comparison.proofs.one.records_end.Reads as records-end-reads
 
 scans : (h : Held) (buf : List ℕ) (at : ℕ) (held : Held) (found : Extent) (wants : Bool) → Inside h (length buf)
     → at ≡ recordsEnd (part h buf) (h .place) → at ≤ length (part h buf) → held ≡ passedTo at h → found ≡ extentAt (part h buf) at
@@ -32,27 +26,21 @@ scans h buf at held found wants i e most to f w =
       over = ap not w;
     }
 
--- src/errors.rt:32:9
 slice-aggregate-part : tie.Need-slice-aggregate-part
 slice-aggregate-part c = sym (all-held _ (c .before .before .pre))
 
--- src/errors.rt:33:9
 records-end-requires : tie.Need-records-end-requires
 records-end-requires c κs = let all = all-held (c .before .before .args .buf .now) (c .before .before .pre) in omega (arith, all, c .before .before .pre .passed)
 
--- src/errors.rt:34:9
 extent-requires : tie.Need-extent-requires
 extent-requires c κs = search needs
 
--- src/errors.rt:36:15
 passed-requires : tie.Need-passed-requires
 passed-requires c κs = search needs
 
--- src/errors.rt:38:16
 wants-bytes-requires : tie.Need-wants-bytes-requires
 wants-bytes-requires c κs = search needs
 
--- src/errors.rt:27:1
 returns : tie.Need-returns
 returns c =
     scans _ _ _ _ _ _ (c .before .before .before .before .before .before .pre) (c .before .before .before .records-end .ensures .0) (c .before .before .before .records-end .ensures .1) (c .before .passed .ensures) (c .before .before .extent .ensures) (c .wants-bytes .ensures)

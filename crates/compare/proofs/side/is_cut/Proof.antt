@@ -7,35 +7,25 @@ use Rattle.compare.specs.Parts.{isCut}
 use borrow.Author.Needs.{needs}
 use Rattle.compare.proofs.side.is_cut.Statement.{statement}
 use Rattle.compare.proofs.side.is_cut.Tie as tie
-use Rattle.compare.proofs.side.is_cut.Reads as reads
-use Rattle.compare.proofs.side.is_cut.Lts as lts
-use Rattle.lines.proofs.number_of.Reads as number-of-reads
 
--- src/side.rt:82:32
 enum-told : tie.Need-enum-told
 enum-told c = search needs
 
--- src/side.rt:83:24
 enum-told-2 : tie.Need-enum-told-2
 enum-told-2 c = search needs
 
--- src/side.rt:84:25
 enum-known-e : tie.Need-enum-known-e
 enum-known-e c = search needs
 
--- src/side.rt:84:31
 number-of-requires : tie.Need-number-of-requires
 number-of-requires c κs = search needs
 
--- src/side.rt:78:1
 returns : tie.Need-returns
 returns c = search needs
 
--- src/side.rt:78:1
 returns-2 : tie.Need-returns-2
 returns-2 c = search needs
 
--- src/side.rt:78:1
 returns-3 : tie.Need-returns-3
 returns-3 c = ap (λ (n : ℕ). eqb n 17) (c .number-of .ensures) ∙ sym (ap isCut (c .before .before .e .given .1))
 

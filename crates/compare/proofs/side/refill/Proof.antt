@@ -5,15 +5,10 @@ use Rattle.rules.specs.Laws.Bools.{true-not-false}
 use borrow.Author.Needs.{needs}
 use Rattle.compare.proofs.side.refill.Statement.{statement}
 use Rattle.compare.proofs.side.refill.Tie as tie
-use Rattle.compare.proofs.side.refill.Reads as reads
-use Rattle.compare.proofs.side.refill.Lts as lts
-use Rattle.host.proofs.descriptor.fill_at.Reads as fill-at-reads
 
--- src/side.rt:43:16
 add-from : tie.Need-add-from
 add-from c = search needs
 
--- src/side.rt:45:9
 returns : tie.Need-returns
 returns c =
     record {
@@ -22,15 +17,12 @@ returns c =
       anew = λ e. absurd (true-not-false refl e);
     }
 
--- src/side.rt:54:9
 fill-at-requires : tie.Need-fill-at-requires
 fill-at-requires c κs = search needs
 
--- src/side.rt:39:1
 same-length : tie.Need-same-length
 same-length c = search needs
 
--- src/side.rt:39:1
 returns-2 : tie.Need-returns-2
 returns-2 c = search needs
 

@@ -15,13 +15,6 @@ use Rattle.comparison.specs.declared.Walk.{Walk}
 use borrow.Author.Needs.{needs}
 use Rattle.comparison.proofs.answer.compare.Statement.{statement}
 use Rattle.comparison.proofs.answer.compare.Tie as tie
-use Rattle.comparison.proofs.answer.compare.Reads as reads
-use Rattle.comparison.proofs.answer.compare.Lts as lts
-use Rattle.comparison.proofs.answer.concluded.Reads as concluded-reads
-use Rattle.comparison.proofs.answer.error_of.Reads as error-of-reads
-use Rattle.comparison.proofs.answer.troubled.Reads as troubled-reads
-use Rattle.comparison.proofs.both.step.Reads as step-reads
-use Rattle.comparison.proofs.both.walk.Reads as walk-reads
 
 on-paper : (first second : List ℕ) (from : ℕ) {r : Comparison} → r ≡ compared first second from
     → (r ≡ compared first second from) × (comparisonPaper r ≡ comparedPaper first second from)
@@ -37,39 +30,30 @@ module _ (first second : List ℕ) (from : ℕ) (e : Error) (told : e ≡ errorO
   unfolding compared comparedFrom
   without f w g s h k = rw (sym told ∙ f) (k ∙ rw (h, g))
 
--- src/answer.rt:100:9
 error-of-requires : tie.Need-error-of-requires
 error-of-requires c κs = search needs
 
--- src/answer.rt:102:31
 enum-told : tie.Need-enum-told
 enum-told c = search needs
 
--- src/answer.rt:102:31
 troubled-requires : tie.Need-troubled-requires
 troubled-requires c κs = search needs
 
--- src/answer.rt:104:17
 enum-told-2 : tie.Need-enum-told-2
 enum-told-2 c = search needs
 
--- src/answer.rt:104:17
 walk-requires : tie.Need-walk-requires
 walk-requires c κs = search needs
 
--- src/answer.rt:105:23
 step-requires : tie.Need-step-requires
 step-requires c κs = search needs
 
--- src/answer.rt:105:13
 concluded-requires : tie.Need-concluded-requires
 concluded-requires c κs = search needs
 
--- src/answer.rt:97:1
 returns : tie.Need-returns
 returns c = on-paper _ _ _ (with-error _ _ _ _ (c .before .before .before .error-of .ensures) _ _ _ _ (c .before .enum-told .given .1) (c .troubled .ensures))
 
--- src/answer.rt:97:1
 returns-2 : tie.Need-returns-2
 returns-2 c =
     on-paper _ _ _

@@ -4,20 +4,13 @@ use Rattle.comparison.specs.Compare.{concluded}
 use borrow.Author.Needs.{needs}
 use Rattle.comparison.proofs.answer.concluded.Statement.{statement}
 use Rattle.comparison.proofs.answer.concluded.Tie as tie
-use Rattle.comparison.proofs.answer.concluded.Reads as reads
-use Rattle.comparison.proofs.answer.concluded.Lts as lts
-use Rattle.comparison.proofs.answer.ends_by.Reads as ends-by-reads
-use Rattle.comparison.proofs.answer.likeness_by.Reads as likeness-by-reads
 
--- src/answer.rt:80:15
 ends-by-requires : tie.Need-ends-by-requires
 ends-by-requires c κs = search needs
 
--- src/answer.rt:81:19
 likeness-by-requires : tie.Need-likeness-by-requires
 likeness-by-requires c κs = search needs
 
--- src/answer.rt:73:1
 returns : tie.Need-returns
 unfolding concluded
 returns c = rw (c .before .ends-by .ensures, c .likeness-by .ensures)

@@ -6,54 +6,40 @@ use Rattle.comparison.specs.declared.Step.{Step}
 use borrow.Author.Needs.{needs}
 use Rattle.comparison.proofs.answer.ends_by.Statement.{statement}
 use Rattle.comparison.proofs.answer.ends_by.Tie as tie
-use Rattle.comparison.proofs.answer.ends_by.Reads as reads
-use Rattle.comparison.proofs.answer.ends_by.Lts as lts
 
--- src/answer.rt:33:29
 enum-told : tie.Need-enum-told
 enum-told c = search needs
 
--- src/answer.rt:34:38
 enum-told-2 : tie.Need-enum-told-2
 enum-told-2 c = search needs
 
--- src/answer.rt:35:28
 enum-told-3 : tie.Need-enum-told-3
 enum-told-3 c = search needs
 
--- src/answer.rt:36:29
 enum-told-4 : tie.Need-enum-told-4
 enum-told-4 c = search needs
 
--- src/answer.rt:37:26
 enum-told-5 : tie.Need-enum-told-5
 enum-told-5 c = search needs
 
--- src/answer.rt:38:32
 enum-told-6 : tie.Need-enum-told-6
 enum-told-6 c = search needs
 
--- src/answer.rt:29:1
 returns : tie.Need-returns
 returns c = search needs
 
--- src/answer.rt:29:1
 returns-2 : tie.Need-returns-2
 returns-2 c = search needs
 
--- src/answer.rt:29:1
 returns-3 : tie.Need-returns-3
 returns-3 c = sym (ap (λ (s : Step). endsBy s (c .before .before .args .number)) (c .enum-told3 .given .1))
 
--- src/answer.rt:29:1
 returns-4 : tie.Need-returns-4
 returns-4 c = sym (ap (λ (s : Step). endsBy s (c .before .before .args .number)) (c .enum-told4 .given .1))
 
--- src/answer.rt:29:1
 returns-5 : tie.Need-returns-5
 returns-5 c = sym (ap (λ (s : Step). endsBy s (c .before .before .args .number)) (c .enum-told5 .given .1))
 
--- src/answer.rt:29:1
 returns-6 : tie.Need-returns-6
 returns-6 c = search needs
 

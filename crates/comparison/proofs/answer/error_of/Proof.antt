@@ -1,9 +1,9 @@
 -- `comparison::answer::error_of` meets its contract.
 -- Assumes nothing.
-use mathlib.Core.Path.{_≡_, sym, ap, _∙_}
+use mathlib.Core.Path.{_≡_, sym, _∙_}
 use mathlib.Core.List.{List}
 use Prim.Native.Nat.{ℕ}
-use Rattle.comparison.specs.Compare.{errorIn, elseError, errorOf}
+use Rattle.comparison.specs.Compare.{errorIn, errorOf}
 use Rattle.comparison.specs.declared.Side.the-variants.{First, Second}
 use Rattle.comparison.specs.declared.Error.{Error}
 use Rattle.comparison.specs.declared.Error.the-variants.{At, Nothing}
@@ -12,9 +12,6 @@ use Rattle.comparison.specs.declared.Side.{Side}
 use borrow.Author.Needs.{needs}
 use Rattle.comparison.proofs.answer.error_of.Statement.{statement}
 use Rattle.comparison.proofs.answer.error_of.Tie as tie
-use Rattle.comparison.proofs.answer.error_of.Reads as reads
-use Rattle.comparison.proofs.answer.error_of.Lts as lts
-use Rattle.comparison.proofs.one.error_in.Reads as error-in-reads
 
 first-told : (first second : List ℕ) (e : Error) (side : Side) (x : Refusal) (at : ℕ) → e ≡ errorIn First first → e ≡ At side x at → e ≡ errorOf first second
 unfolding errorOf
@@ -24,27 +21,21 @@ second-told : (first second : List ℕ) (e d : Error) → e ≡ errorIn First fi
 unfolding errorOf
 second-told first second e d f g h = rw (sym f ∙ g) h
 
--- src/answer.rt:21:9
 error-in-requires : tie.Need-error-in-requires
 error-in-requires c κs = search needs
 
--- src/answer.rt:23:31
 enum-told : tie.Need-enum-told
 enum-told c = search needs
 
--- src/answer.rt:24:36
 enum-told-2 : tie.Need-enum-told-2
 enum-told-2 c = search needs
 
--- src/answer.rt:24:27
 error-in-requires-2 : tie.Need-error-in-requires-2
 error-in-requires-2 c κs = search needs
 
--- src/answer.rt:18:1
 returns : tie.Need-returns
 returns c = first-told _ _ _ _ _ _ (c .before .before .error-in .ensures) (c .enum-told .given .1)
 
--- src/answer.rt:18:1
 returns-2 : tie.Need-returns-2
 returns-2 c = second-told _ _ _ _ (c .before .before .before .error-in .ensures) (c .before .enum-told2 .given .1) (c .error-in2 .ensures)
 

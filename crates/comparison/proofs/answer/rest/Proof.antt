@@ -13,10 +13,6 @@ use Rattle.comparison.specs.declared.Longer.{Longer}
 use borrow.Author.Needs.{needs}
 use Rattle.comparison.proofs.answer.rest.Statement.{statement}
 use Rattle.comparison.proofs.answer.rest.Tie as tie
-use Rattle.comparison.proofs.answer.rest.Reads as reads
-use Rattle.comparison.proofs.answer.rest.Lts as lts
-use Rattle.comparison.proofs.answer.compare.Reads as compare-reads
-use Rattle.comparison.proofs.answer.longer_of.Reads as longer-of-reads
 
 module _ (first second : List ℕ) (c : Comparison) (x y : Longer) (here : c ≡ compared first second 0) (told : x ≡ longerBy (c .likeness) (c .ends)) (is : x ≡ y) where
   longer-told : longerOf (compared first second 0) ≡ y
@@ -30,75 +26,58 @@ module _ (first second : List ℕ) (c : Comparison) (x y : Longer) (here : c ≡
 all-behind : (n : ℕ) (l : List ℕ) → take (length l - n) (drop n l) ≡ drop n l
 all-behind n l = take-all (length l - n) (drop n l) (omega (arith, length-drop n l))
 
--- src/answer.rt:140:18
 compare-requires : tie.Need-compare-requires
 compare-requires c κs = search needs
 
--- src/answer.rt:140:11
 longer-of-requires : tie.Need-longer-of-requires
 longer-of-requires c κs = search needs
 
--- src/answer.rt:141:33
 enum-told : tie.Need-enum-told
 enum-told c = search needs
 
--- src/answer.rt:141:26
 sub-result : tie.Need-sub-result
 sub-result c = the-longer-is-longer _ _ .1 (longer-told _ _ _ _ _ (c .before .before .before .compare .ensures .0) (c .before .before .longer-of .ensures) (c .enum-told .given .1))
 
--- src/answer.rt:141:26
 part-result-start : tie.Need-part-result-start
 part-result-start c = let fits = sub-result c in search needs
 
--- src/answer.rt:141:26
 part-result-end : tie.Need-part-result-end
 part-result-end c = search needs
 
--- src/answer.rt:142:35
 enum-told-2 : tie.Need-enum-told-2
 enum-told-2 c = search needs
 
--- src/answer.rt:142:27
 sub-result-2 : tie.Need-sub-result-2
 sub-result-2 c = the-longer-is-longer _ _ .0 (longer-told _ _ _ _ _ (c .before .before .before .compare .ensures .0) (c .before .before .longer-of .ensures) (c .enum-told2 .given .1))
 
--- src/answer.rt:142:27
 part-result-start-2 : tie.Need-part-result-start-2
 part-result-start-2 c = let fits = sub-result-2 c in search needs
 
--- src/answer.rt:142:27
 part-result-end-2 : tie.Need-part-result-end-2
 part-result-end-2 c = search needs
 
--- src/answer.rt:143:35
 enum-told-3 : tie.Need-enum-told-3
 enum-told-3 c = search needs
 
--- src/answer.rt:143:28
 sub-result-3 : tie.Need-sub-result-3
 sub-result-3 c = search needs
 
--- src/answer.rt:143:28
 part-result-start-3 : tie.Need-part-result-start-3
 part-result-start-3 c = search needs
 
--- src/answer.rt:143:28
 part-result-end-3 : tie.Need-part-result-end-3
 part-result-end-3 c = search needs
 
--- src/answer.rt:137:1
 returns : tie.Need-returns
 returns c =
     let start = c .before .before .before .before .before .before .before in
     all-behind (length (start .args .second .now)) (start .args .first .now) ∙ rest-told _ _ _ _ _ (c .before .before .before .before .compare .ensures .0) (c .before .before .before .longer-of .ensures) (c .before .enum-told .given .1)
 
--- src/answer.rt:137:1
 returns-2 : tie.Need-returns-2
 returns-2 c =
     let start = c .before .before .before .before .before .before .before in
     all-behind (length (start .args .first .now)) (start .args .second .now) ∙ rest-told _ _ _ _ _ (c .before .before .before .before .compare .ensures .0) (c .before .before .before .longer-of .ensures) (c .before .enum-told2 .given .1)
 
--- src/answer.rt:137:1
 returns-3 : tie.Need-returns-3
 returns-3 c =
     let start = c .before .before .before .before .before .before .before in

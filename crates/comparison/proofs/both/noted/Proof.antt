@@ -4,26 +4,19 @@ use borrow.Author.Tests.{le-leb, lt-leb}
 use borrow.Author.Needs.{needs}
 use Rattle.comparison.proofs.both.noted.Statement.{statement}
 use Rattle.comparison.proofs.both.noted.Tie as tie
-use Rattle.comparison.proofs.both.noted.Reads as reads
-use Rattle.comparison.proofs.both.noted.Lts as lts
 
--- src/both.rt:85:36
 enum-told : tie.Need-enum-told
 enum-told c = search needs
 
--- src/both.rt:87:16
 enum-told-2 : tie.Need-enum-told-2
 enum-told-2 c = search needs
 
--- src/both.rt:79:1
 returns : tie.Need-returns
 returns c = search needs
 
--- src/both.rt:79:1
 returns-2 : tie.Need-returns-2
 returns-2 c = rw (c .before .enum-told2 .given .1, le-leb _ _ (c .if1 .taken))
 
--- src/both.rt:79:1
 returns-3 : tie.Need-returns-3
 returns-3 c = rw (c .before .enum-told2 .given .1, lt-leb _ _ (c .if1 .left))
 

@@ -1,24 +1,20 @@
 -- `comparison::both::pair` meets its contract: records of two kinds differ in their first byte, and those of one kind have one
 -- length.
 -- Assumes nothing.
-use mathlib.Core.Path.{_≡_, refl, sym, ap, _∙_}
+use mathlib.Core.Path.{_≡_, sym, ap, _∙_}
 use mathlib.Core.Bool.{Bool, true, false, cond}
 use mathlib.Core.List.{List}
-use Prim.Native.Nat.{ℕ, suc, _+_, _-_, _≤_, _<_}
+use Prim.Native.Nat.{ℕ, suc, _+_, _-_, _≤_}
 use native.Mathlib.Omega.{arith}
 use lib.Seq.{drop-cons}
 use lib.ListN.{length, getD, take, drop}
-use borrow.Author.Tests.{not-true, not-false, ne-eqb}
+use borrow.Author.Tests.{ne-eqb}
 use Rattle.rules.specs.Trace.{total, layout}
-use Rattle.comparison.specs.Compare.{extentAt, sameBytes, between, stepAt}
-use Rattle.comparison.specs.Laws.Steps.{WholeAt, whole-at, pair-step, same-bytes-more}
-use Rattle.comparison.specs.declared.Extent.the-variants.{Whole}
+use Rattle.comparison.specs.Compare.{sameBytes, between, stepAt}
+use Rattle.comparison.specs.Laws.Steps.{WholeAt, whole-at, pair-step}
 use Rattle.comparison.specs.declared.Step.the-variants.{Same, Differs}
 use Rattle.comparison.proofs.both.pair.Statement.{statement}
 use Rattle.comparison.proofs.both.pair.Tie as tie
-use Rattle.comparison.proofs.both.pair.Reads as reads
-use Rattle.comparison.proofs.both.pair.Lts as lts
-use Rattle.comparison.proofs.both.same_bytes.Reads as same-bytes-reads
 
 module _ {first : List ℕ} {p k p₁ : ℕ} {second : List ℕ} {q l q₁ : ℕ} (v : WholeAt first p k p₁) (w : WholeAt second q l q₁) where
   by-bytes : (b : Bool) → sameBytes (between p p₁ first) (between q q₁ second) ≡ b
@@ -44,7 +40,6 @@ module _ {first : List ℕ} {p k p₁ : ℕ} {second : List ℕ} {q l q₁ : ℕ
   inside : k ≡ l → (p + (p₁ - p) ≤ length first) × (q + (p₁ - p) ≤ length second)
   inside e = (omega (arith, v .onward, v .within), omega (arith, one-length e, w .onward, w .within))
 
--- src/both.rt:34:9
 returns : tie.Need-returns
 returns c =
     let start = c .before .before .before in
@@ -52,25 +47,21 @@ returns c =
     let w = whole-at _ _ (start .pre .1) in
     by-bytes v w false (other-kinds v w (c .if1 .taken))
 
--- src/both.rt:36:40
 sub-same-bytes : tie.Need-sub-same-bytes
 sub-same-bytes c =
     let v = whole-at _ _ (c .before .before .before .pre .0) in
     omega (arith, v .onward)
 
--- src/both.rt:36:8
 same-bytes-requires : tie.Need-same-bytes-requires
 same-bytes-requires c κs =
     let start = c .before .before .before in
     inside (whole-at _ _ (start .pre .0)) (whole-at _ _ (start .pre .1)) (c .if1 .left)
 
--- src/both.rt:37:9
 returns-2 : tie.Need-returns-2
 returns-2 c =
     let start = c .before .before .before .before .before in
     by-count (whole-at _ _ (start .pre .0)) (whole-at _ _ (start .pre .1)) (c .before .before .if1 .left) true (sym (c .if2 .taken) ∙ c .before .same-bytes .ensures)
 
--- src/both.rt:29:1
 returns-3 : tie.Need-returns-3
 returns-3 c =
     let start = c .before .before .before .before .before in

@@ -8,86 +8,68 @@ use Rattle.comparison.specs.Compare.{elseDifference, passed}
 use Rattle.comparison.specs.declared.Difference.{Difference}
 use Rattle.comparison.specs.declared.Difference.the-variants.{At, Nothing}
 use Rattle.comparison.specs.declared.Step.{Step}
-use Rattle.comparison.specs.declared.Step.the-variants.{Same, Differs}
+use Rattle.comparison.specs.declared.Step.the-variants.{Differs}
 use Rattle.comparison.specs.declared.Walk.{Walk}
 use borrow.Author.Needs.{needs}
 use Rattle.comparison.proofs.both.pass.Statement.{statement}
 use Rattle.comparison.proofs.both.pass.Tie as tie
-use Rattle.comparison.proofs.both.pass.Reads as reads
-use Rattle.comparison.proofs.both.pass.Lts as lts
-use Rattle.comparison.proofs.both.noted.Reads as noted-reads
 
 differs : (from : ℕ) (w : Walk) (k l p q : ℕ) (d : Difference) → d ≡ elseDifference (w .difference) (cond (leb from (w .number)) (At (w .number) k l) Nothing)
     → record { number = w .number + 1; first = p; second = q; difference = d; alike = false } ≡ passed from (Differs k l p q) w
 unfolding passed
 differs from w k l p q d e = rw e
 
--- src/both.rt:102:20
 enum-known-s : tie.Need-enum-known-s
 enum-known-s c = search needs
 
--- src/both.rt:105:25
 add-t12 : tie.Need-add-t12
 add-t12 c = search needs
 
--- src/both.rt:112:23
 enum-known-s-2 : tie.Need-enum-known-s-2
 enum-known-s-2 c = search needs
 
--- src/both.rt:113:21
 add-t13 : tie.Need-add-t13
 add-t13 c = search needs
 
--- src/both.rt:116:25
 noted-requires : tie.Need-noted-requires
 noted-requires c κs = search needs
 
--- src/both.rt:119:28
 enum-told : tie.Need-enum-told
 enum-told c = search needs
 
--- src/both.rt:120:29
 enum-told-2 : tie.Need-enum-told-2
 enum-told-2 c = search needs
 
--- src/both.rt:121:26
 enum-told-3 : tie.Need-enum-told-3
 enum-told-3 c = search needs
 
--- src/both.rt:122:32
 enum-told-4 : tie.Need-enum-told-4
 enum-told-4 c = search needs
 
--- src/both.rt:97:1
 returns : tie.Need-returns
 unfolding passed
 returns c =
     let start = c .before .before .before .before in
     sym (ap (λ (s : Step). passed (start .args .from) s (start .args .w)) (c .before .before .s .given .1))
 
--- src/both.rt:97:1
 returns-2 : tie.Need-returns-2
 returns-2 c =
     let start = c .before .before .before .before .before in
     differs (start .args .from) (start .args .w) _ _ _ _ _ (c .noted .ensures)
     ∙ sym (ap (λ (s : Step). passed (start .args .from) s (start .args .w)) (c .before .before .before .s2 .given .1))
 
--- src/both.rt:97:1
 returns-3 : tie.Need-returns-3
 unfolding passed
 returns-3 c = sym (ap (λ (s : Step). passed (c .before .before .args .from) s (c .before .before .args .w)) (c .enum-told .given .1))
 
--- src/both.rt:97:1
 returns-4 : tie.Need-returns-4
 unfolding passed
 returns-4 c = sym (ap (λ (s : Step). passed (c .before .before .args .from) s (c .before .before .args .w)) (c .enum-told2 .given .1))
 
--- src/both.rt:97:1
 returns-5 : tie.Need-returns-5
 unfolding passed
 returns-5 c = sym (ap (λ (s : Step). passed (c .before .before .args .from) s (c .before .before .args .w)) (c .enum-told3 .given .1))
 
--- src/both.rt:97:1
 returns-6 : tie.Need-returns-6
 unfolding passed
 returns-6 c = sym (ap (λ (s : Step). passed (c .before .before .args .from) s (c .before .before .args .w)) (c .enum-told4 .given .1))

@@ -1,11 +1,10 @@
 -- `comparison::both::same_bytes` meets its contract: the bytes passed agree, so what is left decides.
 -- Assumes nothing.
-use mathlib.Core.Path.{_≡_, refl, sym, ap, _∙_}
-use mathlib.Core.Bool.{Bool, true, false, _&&_}
+use mathlib.Core.Path.{_≡_, sym, _∙_}
+use mathlib.Core.Bool.{Bool, false, _&&_}
 use mathlib.Core.List.{List}
 use Prim.Native.Nat.{ℕ, suc, _+_, _-_, _≤_, _<_}
 use native.Mathlib.Omega.{arith}
-use native.Mathlib.Numerals.{add-one}
 use lib.Dec.{eqb}
 use lib.ListN.{length, getD, take, drop}
 use borrow.Author.Needs.{needs}
@@ -14,8 +13,6 @@ use Rattle.comparison.specs.Compare.{sameBytes}
 use Rattle.comparison.specs.Laws.Steps.{same-bytes-more}
 use Rattle.comparison.proofs.both.same_bytes.Statement.{statement}
 use Rattle.comparison.proofs.both.same_bytes.Tie as tie
-use Rattle.comparison.proofs.both.same_bytes.Reads as reads
-use Rattle.comparison.proofs.both.same_bytes.Lts as lts
 
 -- so many bytes from a place in each
 abbrev agree : List ℕ → ℕ → List ℕ → ℕ → ℕ → Bool
@@ -43,7 +40,6 @@ Inv-loop first p second q count i₀ i = (i ≤ count) × (agree first p second 
 abbrev μ-loop : tie.MeasureT-loop
 μ-loop first p second q count i₀ i = count - i
 
--- src/both.rt:19:5
 loop-holds : tie.Need-loop-holds Inv-loop μ-loop
 loop-holds c =
     let p₀ : c .args .p + 0 ≡ c .args .p = omega arith in
@@ -51,45 +47,36 @@ loop-holds c =
     let all : c .args .count - 0 ≡ c .args .count = omega arith in
     (omega arith, rw (p₀, q₀, all))
 
--- src/both.rt:20:18
 add-if1 : tie.Need-add-if1 Inv-loop μ-loop
 add-if1 c = search needs
 
--- src/both.rt:20:12
 shared-slice-read-if1 : tie.Need-shared-slice-read-if1 Inv-loop μ-loop
 shared-slice-read-if1 c = search needs
 
--- src/both.rt:20:35
 add-if1-2 : tie.Need-add-if1-2 Inv-loop μ-loop
 add-if1-2 c = search needs
 
--- src/both.rt:20:28
 shared-slice-read-if1-2 : tie.Need-shared-slice-read-if1-2 Inv-loop μ-loop
 shared-slice-read-if1-2 c = search needs
 
--- src/both.rt:21:13
 returns : tie.Need-returns Inv-loop μ-loop
 returns c =
     let loop = c .before .before .before .before in
     let start = loop .before in
     sym (loop .loop .inv .1 ∙ apart _ _ _ _ _ _ (c .before .before .before .loop-test .taken) (start .pre) (c .if1 .taken))
 
--- src/both.rt:23:9
 add-i : tie.Need-add-i Inv-loop μ-loop
 add-i c = search needs
 
--- src/both.rt:19:5
 loop-less : tie.Need-loop-less Inv-loop μ-loop
 loop-less c = search needs
 
--- src/both.rt:19:5
 loop-again : tie.Need-loop-again Inv-loop μ-loop
 loop-again c =
     let loop = c .before .before .before .before in
     let start = loop .before in
     (omega arith, loop .loop .inv .1 ∙ together _ _ _ _ _ _ (c .before .before .before .loop-test .taken) (start .pre) (c .if1 .left))
 
--- src/both.rt:14:1
 returns-2 : tie.Need-returns-2 Inv-loop μ-loop
 returns-2 c =
     let none : c .before .before .args .count - c .before .loop .i ≡ 0 = omega arith in

@@ -8,10 +8,6 @@ use Rattle.comparison.specs.declared.Extent.{Extent}
 use borrow.Author.Needs.{needs}
 use Rattle.comparison.proofs.both.step.Statement.{statement}
 use Rattle.comparison.proofs.both.step.Tie as tie
-use Rattle.comparison.proofs.both.step.Reads as reads
-use Rattle.comparison.proofs.both.step.Lts as lts
-use Rattle.comparison.proofs.both.pair.Reads as pair-reads
-use Rattle.comparison.proofs.one.extent.Reads as extent-reads
 
 -- the step by what the two calls answered
 by : (first : List ℕ) (p : ℕ) (second : List ℕ) (q : ℕ) {d₀ e₀ : Extent} (d e : Extent) → d₀ ≡ extentAt first p → e₀ ≡ extentAt second q
@@ -19,86 +15,67 @@ by : (first : List ℕ) (p : ℕ) (second : List ℕ) (q : ℕ) {d₀ e₀ : Ext
 unfolding stepAt
 by first p second q d e f g h k = rw (sym h ∙ f, sym k ∙ g)
 
--- src/both.rt:46:9
 extent-requires : tie.Need-extent-requires
 extent-requires c κs = search needs
 
--- src/both.rt:47:9
 extent-requires-2 : tie.Need-extent-requires-2
 extent-requires-2 c κs = search needs
 
--- src/both.rt:49:25
 enum-known-d : tie.Need-enum-known-d
 enum-known-d c = search needs
 
--- src/both.rt:50:24
 enum-told : tie.Need-enum-told
 enum-told c = search needs
 
--- src/both.rt:51:29
 enum-known-e : tie.Need-enum-known-e
 enum-known-e c = search needs
 
--- src/both.rt:52:28
 enum-told-2 : tie.Need-enum-told-2
 enum-told-2 c = search needs
 
--- src/both.rt:53:36
 enum-told-3 : tie.Need-enum-told-3
 enum-told-3 c = search needs
 
--- src/both.rt:55:23
 enum-known-d-2 : tie.Need-enum-known-d-2
 enum-known-d-2 c = search needs
 
--- src/both.rt:56:29
 enum-known-e-2 : tie.Need-enum-known-e-2
 enum-known-e-2 c = search needs
 
--- src/both.rt:57:28
 enum-told-4 : tie.Need-enum-told-4
 enum-told-4 c = search needs
 
--- src/both.rt:58:27
 enum-known-e-3 : tie.Need-enum-known-e-3
 enum-known-e-3 c = search needs
 
--- src/both.rt:58:37
 pair-requires : tie.Need-pair-requires
 pair-requires c κs =
     (sym (c .before .before .before .before .before .before .before .extent .ensures) ∙ c .before .before .before .before .d2 .given .1, sym (c .before .before .before .before .before .before .extent2 .ensures) ∙ c .before .e3 .given .1)
 
--- src/both.rt:43:1
 returns : tie.Need-returns
 unfolding stepBy
 returns c = by _ _ _ _ _ (c .before .before .before .extent2 .result) (c .before .before .before .before .extent .ensures) (c .before .before .before .extent2 .ensures) (c .before .d .given .1) refl
 
--- src/both.rt:43:1
 returns-2 : tie.Need-returns-2
 unfolding stepBy
 returns-2 c = by _ _ _ _ _ _ (c .before .before .before .before .before .before .extent .ensures) (c .before .before .before .before .before .extent2 .ensures) (c .before .before .before .enum-told .given .1) (c .before .e .given .1)
 
--- src/both.rt:43:1
 returns-3 : tie.Need-returns-3
 unfolding stepBy
 returns-3 c = by _ _ _ _ _ _ (c .before .before .before .before .before .extent .ensures) (c .before .before .before .before .extent2 .ensures) (c .before .before .enum-told .given .1) (c .enum-told2 .given .1)
 
--- src/both.rt:43:1
 returns-4 : tie.Need-returns-4
 unfolding stepBy
 returns-4 c = by _ _ _ _ _ _ (c .before .before .before .before .before .extent .ensures) (c .before .before .before .before .extent2 .ensures) (c .before .before .enum-told .given .1) (c .enum-told3 .given .1)
 
--- src/both.rt:43:1
 returns-5 : tie.Need-returns-5
 unfolding stepBy
 returns-5 c = by _ _ _ _ _ _ (c .before .before .before .before .before .before .before .extent .ensures) (c .before .before .before .before .before .before .extent2 .ensures) (c .before .before .before .before .d2 .given .1) (c .before .e2 .given .1)
 
--- src/both.rt:43:1
 returns-6 : tie.Need-returns-6
 unfolding stepBy
 returns-6 c = by _ _ _ _ _ _ (c .before .before .before .before .before .before .extent .ensures) (c .before .before .before .before .before .extent2 .ensures) (c .before .before .before .d2 .given .1) (c .enum-told4 .given .1)
 
--- src/both.rt:43:1
 returns-7 : tie.Need-returns-7
 returns-7 c = search needs
 

@@ -15,12 +15,6 @@ use Rattle.comparison.specs.declared.Step.{Step}
 use Rattle.comparison.specs.declared.Walk.{Walk}
 use Rattle.comparison.proofs.both.walk.Statement.{statement}
 use Rattle.comparison.proofs.both.walk.Tie as tie
-use Rattle.comparison.proofs.both.walk.Reads as reads
-use Rattle.comparison.proofs.both.walk.Lts as lts
-use Rattle.comparison.proofs.both.at_start.Reads as at-start-reads
-use Rattle.comparison.proofs.both.is_pair.Reads as is-pair-reads
-use Rattle.comparison.proofs.both.pass.Reads as pass-reads
-use Rattle.comparison.proofs.both.step.Reads as step-reads
 
 -- on the way: what is left of the walk ends where the whole walk does, and no more records are counted than bytes passed
 record Way (first second : List ℕ) (from : ℕ) (w : Walk) : Type 0 where
@@ -61,29 +55,23 @@ Inv-loop first second from w₀ w = Way first second from w
 abbrev μ-loop : tie.MeasureT-loop
 μ-loop first second from w₀ w = length first - w .first
 
--- src/both.rt:142:9
 at-start-requires : tie.Need-at-start-requires Inv-loop μ-loop
 at-start-requires c κs = search needs
 
--- src/both.rt:143:5
 loop-holds : tie.Need-loop-holds Inv-loop μ-loop
 loop-holds c = at-first _ _ _ _ (c .at-start .ensures)
 
--- src/both.rt:144:13
 step-requires : tie.Need-step-requires Inv-loop μ-loop
 step-requires c κs = search needs
 
--- src/both.rt:145:13
 is-pair-requires : tie.Need-is-pair-requires Inv-loop μ-loop
 is-pair-requires c κs = search needs
 
--- src/both.rt:146:13
 returns : tie.Need-returns Inv-loop μ-loop
 returns c =
     at-last _ _ _ _ (c .before .before .before .loop .inv)
     (sym (ap isPair (c .before .before .step .ensures)) ∙ sym (c .before .is-pair .ensures) ∙ not-true _ (c .if1 .taken))
 
--- src/both.rt:148:9
 pass-requires : tie.Need-pass-requires Inv-loop μ-loop
 pass-requires c κs =
     omega (arith, counts _ _ _ (c .before .before .before .loop .inv) (c .before .before .step .ensures) (c .before .is-pair .ensures) (not-false _ (c .if1 .left)))

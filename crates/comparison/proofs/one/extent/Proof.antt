@@ -1,35 +1,25 @@
 -- `comparison::one::extent` meets its contract: each answer is that of reading at the place.
 -- Assumes nothing.
 use mathlib.Core.Path.{sym, _∙_}
-use native.Mathlib.Omega.{arith}
 use borrow.Author.Tests.{not-true, not-false}
 use borrow.Author.Needs.{needs}
 use Rattle.rules.specs.Laws.Trace.{beyond-is-cut, end-at-the-end, unknown-is-refused}
 use Rattle.comparison.specs.Laws.Steps.{extent-of, whole-extent, cut-extent}
 use Rattle.comparison.proofs.one.extent.Statement.{statement}
 use Rattle.comparison.proofs.one.extent.Tie as tie
-use Rattle.comparison.proofs.one.extent.Reads as reads
-use Rattle.comparison.proofs.one.extent.Lts as lts
-use Rattle.trace.proofs.layout.body_len.Reads as body-len-reads
-use Rattle.trace.proofs.layout.is_kind.Reads as is-kind-reads
 
--- src/one.rt:17:9
 returns : tie.Need-returns
 returns c = sym (extent-of _ _ _ (beyond-is-cut _ _ (c .if1 .taken)))
 
--- src/one.rt:20:9
 returns-2 : tie.Need-returns-2
 returns-2 c = sym (extent-of _ _ _ (end-at-the-end _ _ (c .if2 .taken)))
 
--- src/one.rt:22:16
 shared-slice-read-kind : tie.Need-shared-slice-read-kind
 shared-slice-read-kind c = search needs
 
--- src/one.rt:23:9
 is-kind-requires : tie.Need-is-kind-requires
 is-kind-requires c κs = search needs
 
--- src/one.rt:24:9
 returns-3 : tie.Need-returns-3
 returns-3 c =
     let start = c .before .before .before .before .before .before in
@@ -37,30 +27,24 @@ returns-3 c =
     (unknown-is-refused (start .args .trace .now) (start .args .at) (shared-slice-read-kind (c .before .before))
     (sym (c .before .is-kind .ensures) ∙ not-true _ (c .if3 .taken))))
 
--- src/one.rt:26:16
 add-body : tie.Need-add-body
 add-body c = search needs
 
--- src/one.rt:27:9
 body-len-requires : tie.Need-body-len-requires
 body-len-requires c κs = sym (c .before .is-kind .ensures) ∙ not-false _ (c .if3 .left)
 
--- src/one.rt:28:15
 sub-if4 : tie.Need-sub-if4
 sub-if4 c = search needs
 
--- src/one.rt:29:29
 add-t15 : tie.Need-add-t15
 add-t15 c = search needs
 
--- src/one.rt:13:1
 returns-4 : tie.Need-returns-4
 returns-4 c =
     let start = c .before .before .before .before .before .before .before .before in
     whole-extent (start .args .trace .now) (start .args .at) _ (shared-slice-read-kind (c .before .before .before .before))
     (body-len-requires (c .before .before) tt) (c .before .body-len .ensures) (c .if4 .taken)
 
--- src/one.rt:13:1
 returns-5 : tie.Need-returns-5
 returns-5 c =
     let start = c .before .before .before .before .before .before .before .before in

@@ -12,9 +12,6 @@ use Rattle.comparison.specs.Compare.{extentAt, isWhole, recordsEnd}
 use Rattle.comparison.specs.Laws.Steps.{whole-at, records-end-here, records-end-on}
 use Rattle.comparison.proofs.one.records_end.Statement.{statement}
 use Rattle.comparison.proofs.one.records_end.Tie as tie
-use Rattle.comparison.proofs.one.records_end.Reads as reads
-use Rattle.comparison.proofs.one.records_end.Lts as lts
-use Rattle.comparison.proofs.one.extent.Reads as extent-reads
 
 -- nothing more is passed where no whole record stands
 ends : (trace : List ℕ) (at : ℕ) → isWhole (extentAt trace at) ≡ false → at ≡ recordsEnd trace at
@@ -27,26 +24,21 @@ Inv-loop trace from at₀ at = (recordsEnd trace at ≡ recordsEnd trace from) �
 abbrev μ-loop : tie.MeasureT-loop
 μ-loop trace from at₀ at = length trace - at
 
--- src/one.rt:41:5
 loop-holds : tie.Need-loop-holds Inv-loop μ-loop
 loop-holds c = (refl, c .before .pre)
 
--- src/one.rt:42:15
 extent-requires : tie.Need-extent-requires Inv-loop μ-loop
 extent-requires c κs = search needs
 
--- src/one.rt:43:30
 enum-known-next : tie.Need-enum-known-next Inv-loop μ-loop
 enum-known-next c = search needs
 
--- src/one.rt:41:5
 loop-less : tie.Need-loop-less Inv-loop μ-loop
 loop-less c =
     let loop = c .before .before .before .before in
     let w = whole-at (loop .before .before .args .trace .now) (loop .loop .at) (sym (c .before .before .before .extent .ensures) ∙ c .before .next .given .1) in
     omega (arith, w .onward, w .within)
 
--- src/one.rt:41:5
 loop-again : tie.Need-loop-again Inv-loop μ-loop
 loop-again c =
     let loop = c .before .before .before .before in
@@ -54,21 +46,17 @@ loop-again c =
     let w = whole-at (loop .before .before .args .trace .now) (loop .loop .at) here in
     (sym (records-end-on (loop .before .before .args .trace .now) (loop .loop .at) here) ∙ loop .loop .inv .0, w .within)
 
--- src/one.rt:44:28
 enum-told : tie.Need-enum-told Inv-loop μ-loop
 enum-told c = search needs
 
--- src/one.rt:44:28
 returns : tie.Need-returns Inv-loop μ-loop
 returns c =
     let loop = c .before .before .before in
     (ends (loop .before .before .args .trace .now) (loop .loop .at) (sym (ap isWhole (c .before .before .extent .ensures)) ∙ ap isWhole (c .enum-told .given .1)) ∙ loop .loop .inv .0, loop .loop .inv .1)
 
--- src/one.rt:45:35
 enum-told-2 : tie.Need-enum-told-2 Inv-loop μ-loop
 enum-told-2 c = search needs
 
--- src/one.rt:45:35
 returns-2 : tie.Need-returns-2 Inv-loop μ-loop
 returns-2 c =
     let loop = c .before .before .before in

@@ -6,9 +6,6 @@ use lib.ListN.{length}
 use borrow.Author.Needs.{needs}
 use Rattle.host.proofs.descriptor.fill_at.Statement.{statement}
 use Rattle.host.proofs.descriptor.fill_at.Tie as tie
-use Rattle.host.proofs.descriptor.fill_at.Reads as reads
-use Rattle.host.proofs.descriptor.fill_at.Lts as lts
-use Rattle.host.proofs.descriptor.read_at.Reads as read-at-reads
 
 abbrev Inv-loop : tie.InvT-loop
 Inv-loop fd offset buf₀ done₀ buf done = (done ≤ length buf) × (length buf ≡ length buf₀)
@@ -16,67 +13,51 @@ Inv-loop fd offset buf₀ done₀ buf done = (done ≤ length buf) × (length bu
 abbrev μ-loop : tie.MeasureT-loop
 μ-loop fd offset buf₀ done₀ buf done = length buf - done
 
--- src/descriptor.rt:77:5
 loop-holds : tie.Need-loop-holds Inv-loop μ-loop
 loop-holds c = search needs
 
--- src/descriptor.rt:78:32
 add-read-at : tie.Need-add-read-at Inv-loop μ-loop
 add-read-at c = search needs
 
--- src/descriptor.rt:78:31
 cast-read-at : tie.Need-cast-read-at Inv-loop μ-loop
 cast-read-at c = search needs
 
--- src/descriptor.rt:78:55
 sub-read-at : tie.Need-sub-read-at Inv-loop μ-loop
 sub-read-at c = search needs
 
--- src/descriptor.rt:78:55
 part-read-at-start : tie.Need-part-read-at-start Inv-loop μ-loop
 part-read-at-start c = search needs
 
--- src/descriptor.rt:78:55
 part-read-at-end : tie.Need-part-read-at-end Inv-loop μ-loop
 part-read-at-end c = search needs
 
--- src/descriptor.rt:78:13
 read-at-requires : tie.Need-read-at-requires Inv-loop μ-loop
 read-at-requires c κs = search needs
 
--- src/descriptor.rt:80:13
 same-length : tie.Need-same-length Inv-loop μ-loop
 same-length c = search needs
 
--- src/descriptor.rt:80:13
 returns : tie.Need-returns Inv-loop μ-loop
 returns c = search needs
 
--- src/descriptor.rt:87:13
 same-length-2 : tie.Need-same-length-2 Inv-loop μ-loop
 same-length-2 c = search needs
 
--- src/descriptor.rt:87:13
 returns-2 : tie.Need-returns-2 Inv-loop μ-loop
 returns-2 c = search needs
 
--- src/descriptor.rt:93:9
 add-done : tie.Need-add-done Inv-loop μ-loop
 add-done c = search needs
 
--- src/descriptor.rt:77:5
 loop-less : tie.Need-loop-less Inv-loop μ-loop
 loop-less c = search needs
 
--- src/descriptor.rt:77:5
 loop-again : tie.Need-loop-again Inv-loop μ-loop
 loop-again c = search needs
 
--- src/descriptor.rt:72:1
 same-length-3 : tie.Need-same-length-3 Inv-loop μ-loop
 same-length-3 c = search needs
 
--- src/descriptor.rt:72:1
 returns-3 : tie.Need-returns-3 Inv-loop μ-loop
 returns-3 c = search needs
 
