@@ -1,4 +1,4 @@
--- Numbers of the comparison, worked out by hand: each slip of a rule is refused by one of them.
+-- Numbers of the comparison, worked out by hand. A slip of a rule that they do not refuse is refused by a theorem, or means the same.
 -- Assumes nothing.
 use mathlib.Core.Path.{_≡_, refl}
 use mathlib.Core.Bool.{true}
@@ -10,11 +10,22 @@ use Rattle.rules.specs.Laws.Trace.{traceOf}
 use Rattle.rules.specs.declared.trace.Record.{Record}
 use Rattle.rules.specs.declared.trace.Record.the-variants.{Node, Model, Start, Bio as BioOf, Tick}
 use Rattle.comparison.specs.Compare.{extentAt, recordsEndFrom, recordsEnd, errorIn, errorOf, stepBy, stepAt, passed, walkFrom, walked, concluded, comparedFrom, compared, restOf}
-use Rattle.comparison.specs.Paper.{comparisonPaper}
+use Rattle.comparison.specs.Paper.{sideNumber, answerValues, comparisonPaper}
+use Rattle.rules.specs.Refusals.{number}
+use Rattle.comparison.specs.declared.Step.{Step}
+use Rattle.comparison.specs.declared.Step.the-variants.{Same, Differs, FirstEnds, SecondEnds, BothEnd, Refused as StepRefused}
 
 -- an answer as numbers: that of the error, then the side and the place of the error, or the difference, the end and the likeness
 abbrev pub asked : List ℕ → List ℕ → ℕ → List ℕ
 asked first second from = comparisonPaper (compared first second from) .number ∷ comparisonPaper (compared first second from) .values
+
+abbrev pub stepNumbers : Step → List ℕ
+stepNumbers (Same p q) = 1 ∷ p ∷ q ∷ []
+stepNumbers (Differs k l p q) = 2 ∷ k ∷ l ∷ p ∷ q ∷ []
+stepNumbers FirstEnds = 3 ∷ []
+stepNumbers SecondEnds = 4 ∷ []
+stepNumbers BothEnd = 5 ∷ []
+stepNumbers (StepRefused side x) = 6 ∷ sideNumber side ∷ number x ∷ []
 
 -- ---- document 01's whole case, and the same with id 8 and no plan
 abbrev pub bench : ℕ → List Record
@@ -85,7 +96,24 @@ cases =
     ∷ see (restOf [] (6 ∷ 6 ∷ [])) (6 ∷ 6 ∷ [])
     ∷ see (restOf (6 ∷ 6 ∷ []) (6 ∷ 6 ∷ [])) []
     ∷ see (restOf (7 ∷ 1 ∷ 2 ∷ []) (7 ∷ 1 ∷ 3 ∷ 6 ∷ [])) []
+    ∷ see (restOf (7 ∷ 1 ∷ 3 ∷ 6 ∷ []) (7 ∷ 1 ∷ 2 ∷ [])) []
+    ∷ see (restOf (6 ∷ 6 ∷ 9 ∷ []) (6 ∷ [])) []
     ∷ see (restOf (6 ∷ []) (6 ∷ 6 ∷ 9 ∷ [])) []
+    -- beside an error nothing else is told, though a record differs before it and one trace ends
+    ∷ see (answerValues (compared (7 ∷ 1 ∷ 2 ∷ 0 ∷ []) (6 ∷ []) 0)) (0 ∷ [])
+    ∷ see (answerValues (compared (6 ∷ []) (7 ∷ 1 ∷ 2 ∷ 7 ∷ []) 0)) (0 ∷ [])
+    -- one step at places that lie apart: a pair that is the same and one that is not, each end, and whose record is refused
+    ∷ see (stepNumbers (stepAt (7 ∷ 1 ∷ 2 ∷ 6 ∷ []) 3 (6 ∷ []) 0)) (1 ∷ 4 ∷ 1 ∷ [])
+    ∷ see (stepNumbers (stepAt (6 ∷ 7 ∷ 1 ∷ 2 ∷ []) 1 (6 ∷ 6 ∷ 5 ∷ eight) 2)) (2 ∷ 7 ∷ 5 ∷ 4 ∷ 11 ∷ [])
+    ∷ see (stepNumbers (stepAt (6 ∷ []) 1 (6 ∷ []) 0)) (3 ∷ [])
+    ∷ see (stepNumbers (stepAt (6 ∷ []) 0 (6 ∷ []) 1)) (4 ∷ [])
+    ∷ see (stepNumbers (stepAt (6 ∷ []) 1 (6 ∷ 6 ∷ []) 2)) (5 ∷ [])
+    ∷ see (stepNumbers (stepAt (9 ∷ []) 0 (7 ∷ 1 ∷ []) 0)) (6 ∷ 1 ∷ 16 ∷ [])
+    ∷ see (stepNumbers (stepAt (6 ∷ []) 0 (7 ∷ 1 ∷ []) 0)) (6 ∷ 2 ∷ 17 ∷ [])
+    ∷ see (stepNumbers (stepAt (6 ∷ []) 1 (9 ∷ []) 0)) (6 ∷ 2 ∷ 16 ∷ [])
+    ∷ see (stepNumbers (stepAt (6 ∷ []) 2 (6 ∷ []) 1)) (6 ∷ 1 ∷ 17 ∷ [])
+    -- where whole records end, from any place on
+    ∷ see (recordsEnd (6 ∷ 7 ∷ 1 ∷ 2 ∷ 9 ∷ []) 1 ∷ recordsEnd (6 ∷ 7 ∷ 1 ∷ 2 ∷ 9 ∷ []) 4 ∷ recordsEnd (9 ∷ 6 ∷ 6 ∷ []) 1 ∷ recordsEnd (6 ∷ 6 ∷ 7 ∷ []) 0 ∷ []) (4 ∷ 4 ∷ 3 ∷ 2 ∷ [])
     ∷ []
 
 pub comparisons-hold : allSame cases ≡ true

@@ -1,3 +1,3 @@
--- Laws of the comparison, and its theorems.
+-- Laws of the comparison: of its steps, and of the records of both traces.
 pub mod Steps
 pub mod Records

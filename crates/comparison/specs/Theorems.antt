@@ -1,6 +1,6 @@
 -- The theorems of request Seven, over traces without errors: equal and prefix are those of the bytes, the rest makes the
 -- shorter trace the longer, all before the record given is the same, the number asked changes the difference alone, and the
--- other way round the sides are swapped. And where an error is told.
+-- other way round the sides are swapped. And an error stands alone; where it is, is in Laws/Records.
 -- Assumes nothing.
 use mathlib.Core.Path.{_≡_, refl, sym, ap, _∙_}
 use mathlib.Core.Bool.{Bool, true, false, cond, not, _&&_}
@@ -409,7 +409,7 @@ module _ {first second : List ℕ} {rs ss : List (List ℕ)} (reads : Records fi
   none-is-all-the-same e j h a b = none-from from 0 rs ss (sym difference-is ∙ e) j (omega arith) a b
 
 -- ---- the number asked changes the difference alone
-error-told : (first second : List ℕ) (from : ℕ) → compared first second from .error ≡ errorOf first second
+pub error-told : (first second : List ℕ) (from : ℕ) → compared first second from .error ≡ errorOf first second
 unfolding compared comparedFrom concluded
 error-told first second from = go (errorOf first second)
   where
@@ -575,3 +575,27 @@ the-longer-is-longer first second = (
     go Equal f e g = (λ h. never (cc), λ h. never (cc))
     go Different f e g = (λ h. never (cc), λ h. never (cc))
     go Untold f e g = (λ h. never (cc), λ h. never (cc))
+
+-- ---- an error stands alone
+pub record Alone (first second : List ℕ) (from : ℕ) (e : Error) : Type 0 where
+  pub told : compared first second from .error ≡ e
+  pub no-difference : compared first second from .difference ≡ Nothing
+  pub no-end : compared first second from .ends ≡ NoEnd
+  pub no-likeness : compared first second from .likeness ≡ Untold
+  pub no-rest : restOf first second ≡ []
+
+pub an-error-stands-alone : (first second : List ℕ) (from : ℕ) (side : Side) (x : Refusal) (at : ℕ) → errorOf first second ≡ ErrorAt side x at
+    → Alone first second from (ErrorAt side x at)
+an-error-stands-alone first second from side x at e =
+    let untold : compared first second 0 .likeness ≡ Untold = ap (λ (c : Comparison). c .likeness) (with-error first second 0 side x at e) in
+    let one = with-error first second from side x at e in
+    record {
+      told = ap (λ (c : Comparison). c .error) one;
+      no-difference = ap (λ (c : Comparison). c .difference) one;
+      no-end = ap (λ (c : Comparison). c .ends) one;
+      no-likeness = ap (λ (c : Comparison). c .likeness) one;
+      no-rest = otherwise-no-rest first second (λ f. never (not-both (sym untold ∙ f)));
+    }
+  where
+    not-both : _≡_ {A = Likeness} Untold Prefix → _≡_ {A = ℕ} 0 1
+    not-both e = cc

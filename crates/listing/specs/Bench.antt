@@ -1,7 +1,7 @@
--- What a program prints of two traces, as a reader sees it: each slip of a line or of its place is refused by one of these.
+-- What a program prints of two traces, as a reader sees it. A slip that these do not refuse is refused by a theorem, or means the same.
 -- Assumes nothing.
 use mathlib.Core.Path.{_≡_, refl}
-use mathlib.Core.Bool.{true}
+use mathlib.Core.Bool.{true, false, cond}
 use mathlib.Core.List.{List, [], _∷_}
 use Prim.Native.Nat.{ℕ}
 use Rattle.rules.specs.Bench.Edges.{Seen, see, allSame}
@@ -13,13 +13,14 @@ use Rattle.comparison.specs.Bench.{wholeCase, idEight}
 use Rattle.text.specs.Words.{bytes}
 use Rattle.text.specs.Text.{nameOf}
 use Rattle.text.specs.Lines.{differsLine, endsLine, restLine, likenessLine, errorLine}
-use Rattle.listing.specs.Listing.{differsAt, lineBy, advanced, atStart, listFrom, listed, restLineBy, closingLines, differsFrom, differsLines, report}
+use Rattle.listing.specs.Listing.{differsAt, lineBy, advanced, atStart, listFrom, listed, restLineBy, closingLines, closingBy, differsFrom, differsLines, report}
+use Rattle.comparison.specs.declared.Step.the-variants.{FirstEnds, SecondEnds, BothEnd}
 use Rattle.listing.specs.declared.Begins.{Begins}
 use Rattle.listing.specs.declared.Reach.{Reach}
 
 -- how far lines have come, as numbers
 abbrev pub reachNumbers : Reach → List ℕ
-reachNumbers r = r .number ∷ r .first ∷ r .second ∷ []
+reachNumbers r = r .number ∷ r .first ∷ r .second ∷ cond (r .alike) 1 0 ∷ []
 
 -- parts that begin behind 100 bytes of the first trace and 200 of the second
 abbrev pub behindSome : Begins
@@ -42,9 +43,19 @@ cases =
     ∷ see (report (6 ∷ []) (6 ∷ 6 ∷ 7 ∷ 1 ∷ [])) (bytes "error second 17 2\n")
     -- parts: the places are those of the traces, and a line more needs its room
     ∷ see (listed behindSome (6 ∷ 7 ∷ 1 ∷ 2 ∷ []) (6 ∷ 6 ∷ 6 ∷ []) 400 atStart .bytes) (bytes "differs 1 101 201 vrate 513 | plan\n")
-    ∷ see (reachNumbers (listed behindSome (6 ∷ 7 ∷ 1 ∷ 2 ∷ []) (6 ∷ 6 ∷ 6 ∷ []) 400 atStart .reach)) (2 ∷ 4 ∷ 2 ∷ [])
-    ∷ see (reachNumbers (listed behindSome (6 ∷ 7 ∷ 1 ∷ 2 ∷ []) (6 ∷ 6 ∷ 6 ∷ []) 336 atStart .reach)) (0 ∷ 0 ∷ 0 ∷ [])
-    ∷ see (reachNumbers (listed behindSome (6 ∷ 7 ∷ 1 ∷ []) (6 ∷ 7 ∷ 1 ∷ 2 ∷ []) 337 atStart .reach)) (1 ∷ 1 ∷ 1 ∷ [])
+    ∷ see (reachNumbers (listed behindSome (6 ∷ 7 ∷ 1 ∷ 2 ∷ []) (6 ∷ 6 ∷ 6 ∷ []) 400 atStart .reach)) (2 ∷ 4 ∷ 2 ∷ 0 ∷ [])
+    ∷ see (reachNumbers (listed behindSome (6 ∷ 7 ∷ 1 ∷ 2 ∷ []) (6 ∷ 6 ∷ 6 ∷ []) 336 atStart .reach)) (0 ∷ 0 ∷ 0 ∷ 1 ∷ [])
+    ∷ see (reachNumbers (listed behindSome (6 ∷ 7 ∷ 1 ∷ []) (6 ∷ 7 ∷ 1 ∷ 2 ∷ []) 337 atStart .reach)) (1 ∷ 1 ∷ 1 ∷ 1 ∷ [])
+    -- two lines in their order, and the second not where the first leaves too little room
+    ∷ see (listed behindSome (6 ∷ 7 ∷ 1 ∷ 2 ∷ []) (7 ∷ 1 ∷ 2 ∷ 6 ∷ []) 400 atStart .bytes) (bytes "differs 0 100 200 plan | vrate 513\ndiffers 1 101 203 vrate 513 | plan\n")
+    ∷ see (reachNumbers (listed behindSome (6 ∷ 7 ∷ 1 ∷ 2 ∷ []) (7 ∷ 1 ∷ 2 ∷ 6 ∷ []) 371 atStart .reach)) (1 ∷ 1 ∷ 3 ∷ 0 ∷ [])
+    -- a pair that is the same, at places that lie apart, behind one that was not
+    ∷ see (reachNumbers (listed behindSome (6 ∷ 6 ∷ 7 ∷ 1 ∷ 2 ∷ []) (7 ∷ 1 ∷ 2 ∷ 6 ∷ []) 337 (record { number = 5; first = 2; second = 0; alike = false }) .reach)) (6 ∷ 5 ∷ 3 ∷ 0 ∷ [])
+    -- what closes a report, with other bytes left on each side
+    ∷ see (closingBy FirstEnds 3 true 5 7) (bytes "ends first 3\nrest second 7\nprefix\n")
+    ∷ see (closingBy SecondEnds 3 true 5 7) (bytes "ends second 3\nrest first 5\nprefix\n")
+    ∷ see (closingBy FirstEnds 3 false 5 7) (bytes "ends first 3\nrest first 0\ndifferent\n")
+    ∷ see (closingBy BothEnd 3 true 5 7) (bytes "ends neither 3\nrest first 0\nequal\n")
     ∷ []
 
 pub reports-hold : allSame cases ≡ true
