@@ -1,10 +1,12 @@
 //! Generated pairs of traces to compare, the same for a seed: one small trace
 //! against itself with everything done to it in turn, traces of all styles that
-//! are twisted here and there, and long ones that differ where a window of
-//! 65,536 bytes ends.
+//! are twisted here and there, long ones that differ where a window of 65,536
+//! bytes ends, and a few that are laid out to reach what the others reach by
+//! chance alone.
 
 use std::io;
 
+use crate::engine::clock::MAX_VRATE;
 use crate::generator::generate::generate;
 use crate::generator::random::Random;
 use crate::generator::style::Style;
@@ -52,6 +54,7 @@ pub fn pairs(seed: u64) -> io::Result<Vec<TracePair>> {
         all.push(twisted(seed.wrapping_add(step))?);
     }
     long_pairs(&mut random, &mut all);
+    laid_out(&small, &mut random, &mut all);
     Ok(all)
 }
 
@@ -292,4 +295,36 @@ fn at_windows(trace: &Parts, random: &mut Random) -> Parts {
         }
     }
     other
+}
+
+/// What no other pair is sure to be: fewer bytes in more records, once behind
+/// more than 1,000 differences; a vrate out of range; and differences across
+/// the ends of windows.
+fn laid_out(small: &Parts, random: &mut Random, all: &mut Vec<TracePair>) {
+    for (count, kind) in [(1, PLAN), (2, VRATE), (4, TICK), (1_001, NODE)] {
+        let mut behind = |kind: u8, count: usize| {
+            let mut parts = small.clone();
+            parts.extend((0..count).map(|_| record_of(kind, random)));
+            parts.concat()
+        };
+        let (few, more) = (behind(MODEL, count), behind(kind, count + 1));
+        let name = format!("{} models, and one more of kind {}", count, kind);
+        both_ways(&name, &few, &more, all);
+    }
+    let [none, most] = [0, MAX_VRATE + 1].map(|vrate| {
+        let [low, high] = vrate.to_le_bytes();
+        vec![VRATE, low, high]
+    });
+    both_ways("vrates out of range", &none, &most, all);
+    let tick = record_of(TICK, random);
+    let mut trace = vec![PLAN; tick.len() / 2];
+    for _ in 0..3 {
+        trace.resize(trace.len() + WINDOW - tick.len(), PLAN);
+        trace.extend(&tick);
+    }
+    let mut other = trace.clone();
+    for end in 1..=3 {
+        other[end * WINDOW] ^= 1;
+    }
+    both_ways("ticks across windows", &trace, &other, all);
 }
