@@ -1,17 +1,19 @@
 -- What a side holds: the places are inside its buffer, and no sum of them passes 64 bits. And what a round does with it.
 -- Assumes nothing.
 use mathlib.Core.Path.{_≡_}
-use mathlib.Core.Bool.{Bool, true, false, not, _&&_}
+use mathlib.Core.Bool.{Bool, true, false, not, _&&_, _||_}
 use mathlib.Core.List.{List}
 use Prim.Native.Nat.{ℕ, _+_, _≤_, _^_}
 use lib.Dec.{eqb}
 use lib.ListN.{length, take}
 use Rattle.rules.specs.Refusals.{number}
-use Rattle.comparison.specs.Compare.{extentAt, recordsEnd}
+use Rattle.comparison.specs.Compare.{extentAt, recordsEnd, errorBy}
+use Rattle.comparison.specs.declared.Side.{Side}
 use Rattle.comparison.specs.declared.Extent.{Extent}
 use Rattle.comparison.specs.declared.Extent.the-variants.{Whole, End, Refused}
 use Rattle.compare.specs.declared.side.Held.{Held}
 use Rattle.compare.specs.declared.errors.Scan.{Scan}
+use Rattle.compare.specs.declared.errors.Walked.{Walked}
 
 pub record Inside (h : Held) (room : ℕ) : Type 0 where
   pub passed : h .place ≤ h .filled
@@ -53,3 +55,12 @@ pub record Scans (h : Held) (buf : List ℕ) (s : Scan) : Type 0 where
 pub data OneScan (s r : Scan) (buf : List ℕ) : Type 0 where
   unread : Inside (r .held) (length buf) → r .held .failed ≡ true → OneScan s r buf
   scanned : (h : Held) → Refilled (s .held) h (length buf) → h .failed ≡ false → Scans h buf r → OneScan s r buf
+
+-- how a walk over one side ended: its error by what stands where its whole records end, and its length where it has none
+abbrev pub walkedAs : Side → Scan → Walked
+walkedAs side s =
+    record {
+      error = errorBy side (s .found) (s .held .base + s .held .place);
+      length = s .held .base + s .held .place;
+      failed = s .held .failed || not (s .over);
+    }

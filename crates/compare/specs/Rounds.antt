@@ -1,13 +1,17 @@
 -- What one round of the second walk does with the parts that are held, with its lines and with what is read next.
 -- Assumes nothing.
 use mathlib.Core.Path.{_≡_}
-use mathlib.Core.Bool.{Bool, true, false}
+use mathlib.Core.Bool.{Bool, true, false, not, _&&_}
 use mathlib.Core.List.{List}
-use Prim.Native.Nat.{ℕ, _+_, _≤_}
+use Prim.Native.Nat.{ℕ, _+_, _-_, _≤_}
+use lib.Dec.{eqb, ltb}
 use lib.ListN.{length}
-use Rattle.comparison.specs.Compare.{extentAt, stepAt, isPair}
+use Rattle.comparison.specs.Compare.{extentAt, stepAt, isPair, likenessBy}
 use Rattle.comparison.specs.declared.Step.{Step}
-use Rattle.listing.specs.Listing.{Lines, listed, Lists}
+use Rattle.comparison.specs.declared.Step.the-variants.{Same, Differs, FirstEnds, SecondEnds, BothEnd, Refused}
+use Rattle.comparison.specs.declared.Likeness.{Likeness}
+use Rattle.comparison.specs.declared.Likeness.the-variants.{Equal, Prefix, Different, Untold}
+use Rattle.listing.specs.Listing.{Lines, listed, Lists, closingBy}
 use Rattle.listing.specs.declared.Begins.{Begins}
 use Rattle.listing.specs.declared.Reach.{Reach}
 use Rattle.listing.specs.declared.Listed.{Listed}
@@ -16,6 +20,9 @@ use Rattle.compare.specs.declared.side.Held.{Held}
 use Rattle.compare.specs.declared.differences.End.{End}
 use Rattle.compare.specs.declared.differences.End.the-variants.{Over, FirstUnread, SecondUnread, Unwritten}
 use Rattle.compare.specs.declared.differences.Standing.{Standing}
+use Rattle.compare.specs.declared.differences.Lengths.{Lengths}
+use Rattle.compare.specs.declared.differences.Outcome.{Outcome}
+use Rattle.compare.specs.declared.differences.Outcome.the-variants.{Equal as Outcome-equal, Other, Unwritten as Outcome-unwritten, Changed}
 
 -- ---- where a walk stands: inside both buffers, of so much room, and no more records are counted than bytes passed
 pub record Stands (s : Standing) (m n : ℕ) : Type 0 where
@@ -107,3 +114,39 @@ pub record Fresh (s : Standing) : Type 0 where
   pub second-place : s .second .place ≡ 0
   pub number : s .number ≡ 0
   pub alike : s .alike ≡ true
+
+-- ---- the end of a walk
+-- does it end where the first walk did? A trace that was written to meanwhile may end elsewhere, or have an error
+abbrev pub endsThere : Step → ℕ → ℕ → Lengths → Bool
+endsThere (Same p₁ q₁) p q l = false
+endsThere (Differs i j p₁ q₁) p q l = false
+endsThere FirstEnds p q l = eqb p (l .first)
+endsThere SecondEnds p q l = eqb q (l .second)
+endsThere BothEnd p q l = eqb p (l .first) && eqb q (l .second)
+endsThere (Refused side x) p q l = false
+
+abbrev pub isUnchanged : Step → ℕ → ℕ → Lengths → Bool
+isUnchanged s p q l = not (ltb (l .first) p) && (not (ltb (l .second) q) && endsThere s p q l)
+
+-- where each side is in its trace
+abbrev pub firstAt : Standing → ℕ
+firstAt s = s .first .base + s .first .place
+
+abbrev pub secondAt : Standing → ℕ
+secondAt s = s .second .base + s .second .place
+
+-- the lines that close it
+abbrev pub closingHeld : Step → Standing → Lengths → List ℕ
+closingHeld at s l = closingBy at (s .number) (s .alike) (l .first - firstAt s) (l .second - secondAt s)
+
+-- what came of the comparison: the traces are equal exactly where the likeness is
+abbrev pub outcomeOf : Likeness → Outcome
+outcomeOf Equal = Outcome-equal
+outcomeOf Prefix = Other
+outcomeOf Different = Other
+outcomeOf Untold = Changed
+
+pub data Closes (s : Standing) (l : Lengths) (a b : List ℕ) (r : Outcome) : Type 0 where
+  closed : isUnchanged (stepHeld s a b) (firstAt s) (secondAt s) l ≡ true → r ≡ outcomeOf (likenessBy (stepHeld s a b) (s .alike)) → Closes s l a b r
+  changed : isUnchanged (stepHeld s a b) (firstAt s) (secondAt s) l ≡ false → r ≡ Changed → Closes s l a b r
+  not-taken : r ≡ Outcome-unwritten → Closes s l a b r

@@ -7,10 +7,11 @@
 ghost use mathlib.Core.Path.{_≡_};
 ghost use mathlib.Core.Bool.{true};
 ghost use Prim.Native.Nat.{_≤_};
+ghost use Rattle.rules.specs.Buffers.{Written};
 ghost use lib.ListN.{length};
 ghost use Rattle.listing.specs.Listing.{closingRoom};
 ghost use Rattle.compare.specs.Parts.{Inside};
-ghost use Rattle.compare.specs.Rounds.{Stands, endedBy, beginsOf, reachOf, reachedBy, wantsMore, stepHeld, Told, FirstMore, SecondMore, Onward, OneRound, Fresh};
+ghost use Rattle.compare.specs.Rounds.{Stands, endedBy, beginsOf, reachOf, reachedBy, wantsMore, stepHeld, Told, FirstMore, SecondMore, Onward, OneRound, Fresh, isUnchanged, firstAt, secondAt, closingHeld, outcomeOf, Closes};
 use crate::said::progress;
 use crate::side::Held;
 use crate::side::begun;
@@ -264,7 +265,7 @@ pub(crate) struct Lengths {
 
 // Does the walk end where the first walk did? A trace that was written to meanwhile may end elsewhere, or have an error.
 fn is_unchanged(s: Step, p: usize, q: usize, lengths: Lengths) -> bool
-    ensures { λ r. ⌜ (r ≡ true → (p ≤ lengths .first) × (q ≤ lengths .second)) ⌝ }
+    ensures { λ r. ⌜ r ≡ isUnchanged s p q lengths ⌝ }
 {
     if lengths.first < p {
         return false;
@@ -293,7 +294,9 @@ pub(crate) enum Outcome {
     Erred,
 }
 
-fn outcome_of(likeness: Likeness) -> Outcome {
+fn outcome_of(likeness: Likeness) -> Outcome
+    ensures { λ r. ⌜ r ≡ outcomeOf likeness ⌝ }
+{
     match likeness {
         Likeness::Equal => Outcome::Equal,
         Likeness::Prefix => Outcome::Other,
@@ -302,9 +305,24 @@ fn outcome_of(likeness: Likeness) -> Outcome {
     }
 }
 
-// The lines that close a walk.
+// The lines that close a walk, with what is left of each trace.
+fn put_closing(at: Step, s: Standing, lengths: Lengths, out: &mut [u8]) -> usize
+    requires { ⌜ (firstAt s ≤ lengths .first) × ((secondAt s ≤ lengths .second) × (closingRoom ≤ length (now out))) ⌝ }
+    ensures { λ n. ⌜ Written (closingHeld at s lengths) n (now (out .entry)) (now (out .exit)) × (n ≤ closingRoom) ⌝ }
+{
+    let first = s.first;
+    let second = s.second;
+    let left = Left {
+        first: (lengths.first - (first.base + first.place)) as u64,
+        second: (lengths.second - (second.base + second.place)) as u64,
+    };
+    close(at, reach(s), left, out)
+}
+
+// The end of a walk: its lines, unless a trace changed.
 fn closed(s: Standing, lengths: Lengths, a: &[u8], b: &[u8], out: &mut [u8]) -> Outcome
     requires { ⌜ Stands s (length (now a)) (length (now b)) × (closingRoom ≤ length (now out)) ⌝ }
+    ensures { λ r. ⌜ Closes s lengths (now (a .entry)) (now (b .entry)) r ⌝ }
 {
     let at = step_at(s, a, b);
     let first = s.first;
@@ -314,11 +332,7 @@ fn closed(s: Standing, lengths: Lengths, a: &[u8], b: &[u8], out: &mut [u8]) -> 
     if !is_unchanged(at, p, q, lengths) {
         return Outcome::Changed;
     }
-    let left = Left {
-        first: (lengths.first - p) as u64,
-        second: (lengths.second - q) as u64,
-    };
-    let count = close(at, reach(s), left, out);
+    let count = put_closing(at, s, lengths, out);
     let put = write(STDOUT_FILENO, &out[0..count]);
     if put < count {
         return Outcome::Unwritten;

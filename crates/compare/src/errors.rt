@@ -1,7 +1,8 @@
 // The first walk: one side from its beginning to its end, or to the record that is an error. Nothing is printed here.
+ghost use mathlib.Core.Path.{_≡_};
 ghost use Prim.Native.Nat.{_+_, _^_, _<_};
 ghost use lib.ListN.{length};
-ghost use Rattle.compare.specs.Parts.{Inside, Scans, OneScan};
+ghost use Rattle.compare.specs.Parts.{Inside, Scans, OneScan, walkedAs};
 use crate::said::progress;
 use crate::side::Held;
 use crate::side::begun;
@@ -65,7 +66,8 @@ pub(crate) struct Walked {
 }
 
 fn ended(side: Side, s: Scan) -> Walked
-    requires { ⌜ (s .held .base + s .held .place < 2 ^ 64) ⌝ }
+    requires { ⌜ s .held .base + s .held .place < 2 ^ 64 ⌝ }
+    ensures { λ r. ⌜ r ≡ walkedAs side s ⌝ }
 {
     let held = s.held;
     let found = s.found;
