@@ -67,5 +67,5 @@ while read -r block; do
 done <"$work/order"
 if [ "$gates" -eq 1 ]; then passed=$((passed + 1)); else fail "the gate's own line is there $gates times"; fi
 
-# Thirteen examples and the gate's own line.
-close_count "$passed" "$failed" 14
+# Twelve examples and the gate's own line.
+close_count "$passed" "$failed" 13
