@@ -11,7 +11,7 @@ use Rattle.rules.specs.Laws.Bools.{never}
 use Rattle.comparison.specs.Compare.{errorOf, between, isPair, passed, stepOf, atStart as walkStart, walkFrom, walked, endsBy, likenessBy, concluded, comparedFrom, compared, longerBy, longerOf, restBy, restOf}
 use Rattle.comparison.specs.Laws.Steps.{Stepping, each-step, walk-here, walk-on, walkOn}
 use Rattle.comparison.specs.Laws.Steps.Stepping.{same, differ, first-ends, second-ends, both-end, first-broken, second-broken}
-use Rattle.comparison.specs.Theorems.{same-bytes-are-equal}
+use Rattle.comparison.specs.Laws.Lists.{same-bytes-are-equal}
 use Rattle.comparison.specs.declared.Ends.{Ends}
 use Rattle.comparison.specs.declared.Likeness.{Likeness}
 use Rattle.comparison.specs.declared.Error.the-variants.{Nothing as NoError}

@@ -8,42 +8,25 @@ use native.Mathlib.Omega.{arith}
 use lib.ListN.{length, length-append}
 use lib.Seq.{drop-at}
 use Rattle.rules.specs.Trace.{readAt}
-use Rattle.rules.specs.Chunks.{isCut}
 use Rattle.rules.specs.Laws.Bools.{never}
-use Rattle.rules.specs.Laws.Pieces.{same-with-more, shifted, shifted-with-less}
+use Rattle.rules.specs.Laws.Pieces.{shifted, shifted-with-less}
 use Rattle.rules.specs.declared.trace.Record.{Record}
 use Rattle.rules.specs.declared.trace.Read.{Read}
 use Rattle.rules.specs.declared.trace.Read.the-variants.{Found, End, Refused as Unread}
-use Rattle.comparison.specs.Compare.{errorIn, elseError, errorOf, unlessError, compared, restOf}
-use Rattle.comparison.specs.Laws.Steps.{WholeAt, extent-of, whole-at}
+use Rattle.comparison.specs.Compare.{errorIn, compared, restOf}
+use Rattle.comparison.specs.Laws.Steps.{extent-of, whole-at}
 use Rattle.comparison.specs.Laws.Records.{Records, without-error, records-have-no-error}
 use Rattle.comparison.specs.Laws.Records.Records.{none-left, one-more}
-use Rattle.comparison.specs.Theorems.{the-rest-makes-the-longer, otherwise-no-rest}
+use Rattle.comparison.specs.Laws.Lists.{goes-likewise}
+use Rattle.comparison.specs.Theorems.{no-error, the-rest-makes-the-longer, otherwise-no-rest, prefix-without-error}
 use Rattle.comparison.specs.declared.Side.{Side}
 use Rattle.comparison.specs.declared.Side.the-variants.{First, Second}
 use Rattle.comparison.specs.declared.Likeness.{Likeness}
 use Rattle.comparison.specs.declared.Likeness.the-variants.{Equal, Prefix, Different, Untold}
-use Rattle.comparison.specs.declared.Error.{Error}
-use Rattle.comparison.specs.declared.Error.the-variants.{At as ErrorAt, Nothing as NoError}
-use Rattle.comparison.specs.declared.Comparison.{Comparison}
+use Rattle.comparison.specs.declared.Error.the-variants.{Nothing as NoError}
 
 -- ---- records behind records
 module _ (a b : List ℕ) where
-  same-next : {at k l p q : ℕ} → WholeAt a at k p → WholeAt (a ++ b) at l q → q ≡ p
-  unfolding isCut
-  same-next {at} {p = p} {q = q} v w =
-      let there : readAt (a ++ b) at ≡ readAt a at = same-with-more a b at (rw (v .reads)) in
-      next-of (sym (w .reads) ∙ there ∙ v .reads)
-    where
-      next-of : {r s : Record} → Found r q ≡ Found s p → q ≡ p
-      next-of e = cc
-
-  -- the longer trace has records where the shorter ends
-  goes-on : {at : ℕ} {rs ss : List (List ℕ)} → Records a at rs → Records (a ++ b) at ss → (ts : List (List ℕ)) × Records (a ++ b) (length a) ts
-  goes-on (none-left e) others = (_, rw e at others)
-  goes-on (one-more v more) (none-left d) = absurd (omega (arith, v .onward, v .within, length-append a b))
-  goes-on (one-more v more) (one-more w others) = goes-on more (rw (same-next v w) at others)
-
   read-behind : (at : ℕ) → readAt (a ++ b) (length a + at) ≡ shifted (length a) (readAt b at)
   read-behind at =
       let long : length a ≤ length (a ++ b) = rw length-append (omega arith) in
@@ -78,26 +61,10 @@ module _ (a b : List ℕ) where
 
   rest-of-longer : (side s t : Side) → errorIn s a ≡ NoError → errorIn t (a ++ b) ≡ NoError → errorIn side b ≡ NoError
   rest-of-longer side s t d e =
-      let on = goes-on (without-error a s d .1) (without-error (a ++ b) t e .1) in
-      records-have-no-error b side (behind (on .1) 0 (omega arith) .1)
+      let on = goes-likewise a b (without-error a s d .1) (without-error (a ++ b) t e .1) in
+      records-have-no-error b side (behind (on .behind) 0 (omega arith) .1)
 
 -- ---- the rest
-no-error : (first second : List ℕ) → errorOf first second ≡ NoError → (errorIn First first ≡ NoError) × (errorIn Second second ≡ NoError)
-unfolding errorOf
-no-error first second e = go (errorIn First first) e
-  where
-    go : (d : Error) → elseError d (errorIn Second second) ≡ NoError → (d ≡ NoError) × (errorIn Second second ≡ NoError)
-    go NoError f = (refl, f)
-    go (ErrorAt side x at) f = never (cc)
-
-prefix-without-error : (first second : List ℕ) → compared first second 0 .likeness ≡ Prefix → errorOf first second ≡ NoError
-unfolding compared
-prefix-without-error first second e = go (errorOf first second) _ e
-  where
-    go : (d : Error) (c : Comparison) → unlessError d c .likeness ≡ Prefix → d ≡ NoError
-    go NoError c f = refl
-    go (ErrorAt side x at) c f = never (cc)
-
 pub the-rest-has-no-error : (side : Side) (first second : List ℕ) → errorIn side (restOf first second) ≡ NoError
 the-rest-has-no-error side first second = go (compared first second 0 .likeness) refl
   where
