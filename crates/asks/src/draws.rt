@@ -10,7 +10,7 @@ pub(crate) fn next(draw: u64) -> u64 {
     b ^ (b << 17)
 }
 
-#[derive(Drop)]
+#[derive(Clone, Copy)]
 pub(crate) enum Move {
     Send(Bio),
     Tick(u64),

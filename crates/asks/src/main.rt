@@ -1,5 +1,6 @@
 // Asks before each submission of a generated run, and says how often each answer came, and how often question and submission
 // differed. For the benchmark, a word asks for nothing but questions or nothing but submissions, one after the other.
+#![tactic(auto)]
 mod calls;
 mod draws;
 mod often;

@@ -14,7 +14,7 @@ const MOVES: usize = 60000;
 // No time comes near this in so many moves.
 const LATEST: u64 = 1152921504606846976;
 
-#[derive(Drop)]
+#[derive(Clone, Copy)]
 struct Played {
     state: Controller,
     tally: Tally,

@@ -6,7 +6,7 @@ use rules::budget::Controller;
 use rules::cost::Bio;
 use rules::refusals::{Answer, Refusal};
 
-#[derive(Drop)]
+#[derive(Clone, Copy)]
 pub(crate) struct Tally {
     pub(crate) counts: [u64; 9],
     pub(crate) asleep: u64,

@@ -1,6 +1,7 @@
 // The records after start: a bio, a tick, a plan, a vrate, a weight. Each is one call on the controller and the lines of its
 // answer; a refused one changes nothing, and the replay goes on. The state goes from call to call in one function,
 // since each function that it is handed through copies it.
+#![tactic(auto)]
 ghost use Rattle.std.specs.Prelude.{◌≡◌, ◌≤◌, length};
 ghost use Rattle.rules.specs.Numbers.{line_room, shares_room};
 ghost use Rattle.rules.specs.Replay.{tick_lines, next_place};

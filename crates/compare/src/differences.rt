@@ -22,7 +22,7 @@ use libc::STDOUT_FILENO;
 use listing::{Begins, Left, Listed, Reach, close, list};
 
 // Why a walk is over: both sides are at an end of theirs, or something failed.
-#[derive(Drop)]
+#[derive(Clone, Copy)]
 pub(crate) enum End {
     Over,
     FirstUnread,
@@ -31,7 +31,7 @@ pub(crate) enum End {
 }
 
 // Whether a person watches, and how many bytes the first walk read.
-#[derive(Drop)]
+#[derive(Clone, Copy)]
 pub(crate) struct Watch {
     pub watched: bool,
     pub seen: u64,
@@ -39,7 +39,7 @@ pub(crate) struct Watch {
 
 // Where a walk stands: what is held of each side, how many pairs are passed, whether all of them were the same, and how many
 // bytes the writes of the last round took.
-#[derive(Drop)]
+#[derive(Clone, Copy)]
 pub(crate) struct Standing {
     pub first: Held,
     pub second: Held,
@@ -247,7 +247,7 @@ fn fresh(first: i32, second: i32) -> Standing
 }
 
 // How many bytes each trace has, by the first walk.
-#[derive(Drop)]
+#[derive(Clone, Copy)]
 pub(crate) struct Lengths {
     pub first: usize,
     pub second: usize,
@@ -274,7 +274,7 @@ fn is_unchanged(s: Step, p: usize, q: usize, lengths: Lengths) -> bool
 }
 
 // What came of a comparison; a trace that has an error is not compared.
-#[derive(Drop)]
+#[derive(Clone, Copy)]
 pub(crate) enum Outcome {
     Equal,
     Other,

@@ -10,7 +10,7 @@ use host::descriptor::TRIES;
 use host::said::no_progress;
 
 // Where a walk over one side stands: what it holds, what stands where its whole records end, and whether that is for good.
-#[derive(Drop)]
+#[derive(Clone, Copy)]
 pub(crate) struct Scan {
     pub held: Held,
     pub found: Extent,
@@ -51,7 +51,7 @@ fn round(s: Scan, buf: &mut [u8]) -> Scan
 }
 
 // How a walk over one side ended: its error, and its length where it has none.
-#[derive(Drop)]
+#[derive(Clone, Copy)]
 pub(crate) struct Walked {
     pub error: Error,
     pub length: usize,

@@ -1,6 +1,7 @@
 // Compares the traces in the two files that its arguments name; '-' names standard input. The lines go to standard output, and
 // what goes wrong is one line on standard error. A first argument '--report' asks for a mark that tells how the traces compare.
 // The program only moves bytes; what is compared and what a line says is decided in `comparison`, `listing` and below.
+#![tactic(auto)]
 mod differences;
 mod errors;
 mod said;
@@ -15,7 +16,7 @@ use libc::{EBADF, ESPIPE, SEEK_CUR, STDIN_FILENO, STDOUT_FILENO};
 use rules::refusals::Refusal;
 
 // How a run ended, as its mark says it.
-#[derive(Drop)]
+#[derive(Clone, Copy)]
 enum Mark {
     Equal,
     Other,

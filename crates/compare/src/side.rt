@@ -12,7 +12,7 @@ const FARTHEST: usize = 0x7fff_ffff_0000_0000;
 
 // The part that is held begins at `base`, has `filled` bytes, and is passed up to `place`; behind it comes nothing more where
 // it is `last`.
-#[derive(Drop)]
+#[derive(Clone, Copy)]
 pub(crate) struct Held {
     pub fd: i32,
     pub base: usize,

@@ -30,7 +30,7 @@ fn rebudgeted<'a>(rows: [Row; 64], before: &'a [u32; 64], after: &'a [u32; 64]) 
 }
 
 // Base shares of all leaves, and the rows with the budgets that follow them.
-#[derive(Drop)]
+#[derive(Clone, Copy)]
 pub struct Anew {
     pub shares: [u32; 64],
     pub rows: [Row; 64],

@@ -23,7 +23,7 @@ fn again(answer: isize) -> bool {
 }
 
 // What a read brought: nothing at the end of the input, and nothing where it failed.
-#[derive(Drop)]
+#[derive(Clone, Copy)]
 pub struct Got {
     pub count: usize,
     pub failed: bool,
@@ -61,7 +61,7 @@ fn read_at(fd: i32, offset: i64, buf: &mut [u8]) -> Got
 }
 
 // What was filled of a buffer, and whether the file ends there.
-#[derive(Drop)]
+#[derive(Clone, Copy)]
 pub struct Filled {
     pub count: usize,
     pub ended: bool,

@@ -1,6 +1,7 @@
 // One leaf's row and queue by value: what a submission decides and changes there, a leaf's turn in a tick, and what a
 // plan does to its row. A share comes in as a number and released ids go out into a lent buffer; nothing here knows of
 // another leaf, of the tree or of the clock.
+#![tactic(auto)]
 ghost use Rattle.std.specs.Prelude.{◌≡◌, min};
 
 pub mod plan;

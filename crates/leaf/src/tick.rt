@@ -16,7 +16,7 @@ const IDLE_CAP: u64 = 134217728;
 
 // A leaf before anything is released: its row, what it repaid, and whether bios that wait are due. With none due, its turn
 // is over.
-#[derive(Drop)]
+#[derive(Clone, Copy)]
 pub struct Settled {
     pub row: Row,
     pub repaid: Abs,
@@ -25,7 +25,7 @@ pub struct Settled {
 
 // What a release leaves: the row, where the queue begins now and how many wait there, and how many ids were written. The
 // places of the queue keep what they had, so that no queue is moved.
-#[derive(Drop)]
+#[derive(Clone, Copy)]
 pub struct Left {
     pub row: Row,
     pub head: u8,

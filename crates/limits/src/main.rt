@@ -1,6 +1,7 @@
 // Three refusals that no replay shows, by direct calls on both sides of their edge. Virtual time comes near 2^60 (11) only
 // after hundreds of millions of ticks, the replay lends a tick room for every bio that can wait (13), and it writes no
 // record (28). Each line is made of what a call answered and of what it left.
+#![tactic(auto)]
 use rules::cost::Bio;
 use rules::trace::Record;
 

@@ -1,6 +1,7 @@
 // The lines of a comparison: one for each record that differs, and three that close it, at the front of a buffer that the
 // caller lends. A caller that can hold only parts of two long traces lends those, with the places at which they begin, and goes
 // on with others where these end. What a line says is decided below, and which bytes are held above.
+#![tactic(auto)]
 ghost use Rattle.std.specs.Prelude.{◌≡◌, ◌+◌, ◌^◌, ◌≤◌, ◌<◌, length};
 ghost use Rattle.rules.specs.Buffers.{Written};
 ghost use Rattle.comparison.specs.Compare.{step_at};
@@ -19,14 +20,14 @@ use trace::decoder;
 const ROOM: usize = 337;
 
 // A part of a trace is held that begins at this place of it.
-#[derive(Drop)]
+#[derive(Clone, Copy)]
 pub struct Begins {
     pub first: u64,
     pub second: u64,
 }
 
 // So many bytes of each trace are behind the last pair.
-#[derive(Drop)]
+#[derive(Clone, Copy)]
 pub struct Left {
     pub first: u64,
     pub second: u64,
@@ -34,7 +35,7 @@ pub struct Left {
 
 // How far the lines have come: how many pairs are passed, the places behind them in the parts that are held, and whether all
 // of them were the same.
-#[derive(Drop)]
+#[derive(Clone, Copy)]
 pub struct Reach {
     pub number: usize,
     pub first: usize,
@@ -43,7 +44,7 @@ pub struct Reach {
 }
 
 // How far they came, and how many bytes of lines were written.
-#[derive(Drop)]
+#[derive(Clone, Copy)]
 pub struct Listed {
     pub reach: Reach,
     pub count: usize,

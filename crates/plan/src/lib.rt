@@ -2,6 +2,7 @@
 // and E start at 0. `parts` has the steps in order. It alone holds the rows of all leaves, since every function that took
 // them would copy them: a step over rows is a loop there, and what it does to one leaf is a function here or in the crate
 // leaf.
+#![tactic(auto)]
 ghost use Rattle.std.specs.Prelude.{◌≡◌, [], ◌&&◌, ◌*◌, ◌≤◌, ◌<◌, ltb};
 ghost use Rattle.rules.specs.Numbers.{since_most};
 ghost use Rattle.rules.specs.Plan.{is_quiet, forgiven as forgiven_of, restarted_clock, plan as plan_of};
@@ -109,7 +110,7 @@ fn planned_row(quiet: bool, stay: bool, before: u32, after: u32, row: Row) -> Ro
 }
 
 // "With no donor or no active non-donor, ..": who gives, and the share of each.
-#[derive(Drop)]
+#[derive(Clone, Copy)]
 struct Sharing {
     donors: u64,
     shares: [u32; 64],
@@ -131,7 +132,7 @@ fn shared(active: u64, donors: u64, bases: [u32; 64], targets: [u32; 64]) -> Sha
 }
 
 // What a plan leaves of the state, but for E, which starts at 0.
-#[derive(Drop)]
+#[derive(Clone, Copy)]
 pub struct Planned {
     pub active: u64,
     pub donors: u64,

@@ -19,7 +19,7 @@ use rules::replay::{Fed, Pause, Replay};
 use steps::chunk::{beginning, carry, feed};
 
 // Why a run is over.
-#[derive(Drop)]
+#[derive(Clone, Copy)]
 pub(crate) enum End {
     Over,
     Unread,
@@ -28,7 +28,7 @@ pub(crate) enum End {
 
 // Where a run stands. The first `filled` bytes of the chunk buffer wait to be replayed, and if `last`, no more will come
 // after them; `total` bytes were read so far, and the writes of the last round took `put` bytes of its lines.
-#[derive(Drop)]
+#[derive(Clone, Copy)]
 pub(crate) struct Standing {
     pub replay: Replay,
     pub filled: usize,

@@ -17,7 +17,7 @@ use text::{put_difference, put_ends, put_error, put_likeness, put_record, put_re
 use trace::decoder::read_at;
 
 // Where the records stopped: at their end, or where a line was not taken.
-#[derive(Drop)]
+#[derive(Clone, Copy)]
 pub(crate) struct Stop {
     pub place: usize,
     pub unwritten: bool,

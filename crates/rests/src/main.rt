@@ -1,6 +1,7 @@
 // Compares the two traces that its first two arguments name, from the record number of its third on, and prints the answer and
 // each record of the rest, as the library hands them back. Both traces are held whole. What goes wrong is one line on standard
 // error. The program only moves bytes: what differs is decided in `comparison`, and what a line says in `text`.
+#![tactic(auto)]
 mod answer;
 mod number;
 mod said;

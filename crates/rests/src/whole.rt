@@ -7,7 +7,7 @@ use crate::said;
 use host::descriptor::read;
 
 // How many bytes a trace has that is held, or why it is not.
-#[derive(Drop)]
+#[derive(Clone, Copy)]
 pub(crate) enum Held {
     Whole(usize),
     TooLong,

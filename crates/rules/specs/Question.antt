@@ -36,8 +36,8 @@ own_of n leaves active model share row waiting = record {
   waiting = waiting;
 }
 
-abbrev pub field_own : ℕ → Controller → Own
-field_own n c = own_of n c.leaves c.active c.model (share_at c n) (row_at c n) (queue_at c n).len
+abbrev pub own_at : ℕ → Controller → Own
+own_at n c = own_of n c.leaves c.active c.model (share_at c n) (row_at c n) (queue_at c n).len
 
 -- ---- the decision: refusal 4, then 5 and 6, then by the leaf
 abbrev pub refused_by : Refusal → Ruling
@@ -73,4 +73,4 @@ asked b o = (ruling b o).answer
 
 -- and in a state that of the bio's node
 abbrev pub question : Bio → Controller → Answer
-question b c = asked b (field_own b.node c)
+question b c = asked b (own_at b.node c)

@@ -9,7 +9,7 @@ use crate::tree::Tree;
 use crate::units::{Abs, Virt};
 
 // The waiting bios of one leaf, oldest first: a ring of which `len` places from `head` on are in use.
-#[derive(Drop)]
+#[derive(Clone, Copy)]
 pub struct Queue {
     pub ids: [u32; Controller::QUEUE_ROOM],
     pub costs: [Abs; Controller::QUEUE_ROOM],
@@ -19,7 +19,7 @@ pub struct Queue {
 
 // The books of one leaf. `end` is where its last accepted bio ended that was no flush, if `begun` says that there was one;
 // `accepted` says whether any bio was accepted since the last plan; `usage` is what it was charged since then.
-#[derive(Drop)]
+#[derive(Clone, Copy)]
 pub struct Row {
     pub budget: Virt,
     pub debt: Abs,
@@ -31,7 +31,7 @@ pub struct Row {
 
 // The last accepted time, virtual time, E (virtual time since the last plan), vrate, and the hundredths of virtual time
 // that are left over.
-#[derive(Drop)]
+#[derive(Clone, Copy)]
 pub struct Clock {
     pub time: u64,
     pub vtime: Virt,
@@ -41,7 +41,7 @@ pub struct Clock {
 }
 
 // `leaves`, `active` and `donors` are sets of nodes: bit n is node n. An inactive leaf has share 0.
-#[derive(Drop)]
+#[derive(Clone, Copy)]
 pub struct Controller {
     pub tree: Tree,
     pub model: Model,
@@ -56,7 +56,7 @@ pub struct Controller {
 
 // Request Six: what a question is shown, since it ".. looks only at that leaf's own row and the model": whether the node is
 // a leaf and active, the model, and of the node's books the share, the row and how many wait.
-#[derive(Drop)]
+#[derive(Clone, Copy)]
 pub struct Own {
     pub leaf: bool,
     pub active: bool,
@@ -67,19 +67,19 @@ pub struct Own {
 }
 
 // The new state beside the answer: of start, plan, vrate and weight, of a submission, and of a tick.
-#[derive(Drop)]
+#[derive(Clone, Copy)]
 pub struct Outcome {
     pub answer: Verdict,
     pub state: Controller,
 }
 
-#[derive(Drop)]
+#[derive(Clone, Copy)]
 pub struct Submitted {
     pub answer: Answer,
     pub state: Controller,
 }
 
-#[derive(Drop)]
+#[derive(Clone, Copy)]
 pub struct Ticked {
     pub answer: Count,
     pub state: Controller,
@@ -123,7 +123,7 @@ impl Controller {
     // The fresh state over a tree and its set of leaves, which is worked out once.
     pub fn new(tree: Tree, leaves: u64, model: Model, time: u64) -> Self
         ensures value { result ≡ fresh_with leaves tree model time }
-        ensures* numbers { do ⌜ ((← (⟦Controller::WHOLE⟧).entry) ≡ whole) × ((← (⟦Controller::QUEUE_ROOM⟧).entry) ≡ queue_room) × ((← (⟦Controller::SHARE_FLOOR⟧).entry) ≡ share_floor) ⌝ }
+        ensures numbers { (Controller.WHOLE ≡ whole) × (Controller.QUEUE_ROOM ≡ queue_room) × (Controller.SHARE_FLOOR ≡ share_floor) }
     {
         Self {
             tree,

@@ -2,7 +2,7 @@
 use crate::units::Abs;
 
 // The six rates, in the order of a trace's model record.
-#[derive(Drop)]
+#[derive(Clone, Copy)]
 pub struct Rates {
     pub rbps: u64,
     pub rseqiops: u64,
@@ -13,21 +13,21 @@ pub struct Rates {
 }
 
 // What one direction costs: each page, and once for each bio a base, by where the bio lies.
-#[derive(Drop)]
+#[derive(Clone, Copy)]
 pub struct Price {
     pub page: Abs,
     pub sequential: Abs,
     pub random: Abs,
 }
 
-#[derive(Drop)]
+#[derive(Clone, Copy)]
 pub struct Model {
     pub read: Price,
     pub write: Price,
 }
 
 // One request. Each of its numbers may be any that its width can hold.
-#[derive(Drop)]
+#[derive(Clone, Copy)]
 pub struct Bio {
     pub node: u8,
     pub flags: u8,

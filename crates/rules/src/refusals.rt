@@ -3,7 +3,7 @@ use crate::cost::Model;
 use crate::tree::Fault;
 use crate::units::Abs;
 
-#[derive(Drop)]
+#[derive(Clone, Copy)]
 pub enum Refusal {
     BadTree(Fault),
     ThinTree,
@@ -28,28 +28,28 @@ pub enum Refusal {
 }
 
 // What six rates are priced at.
-#[derive(Drop)]
+#[derive(Clone, Copy)]
 pub enum Pricing {
     Priced(Model),
     Refused(Refusal),
 }
 
 // What a bio is found to cost.
-#[derive(Drop)]
+#[derive(Clone, Copy)]
 pub enum Costing {
     Costs(Abs),
     Refused(Refusal),
 }
 
 // What a tree's check, start, plan, vrate and weight answer.
-#[derive(Drop)]
+#[derive(Clone, Copy)]
 pub enum Verdict {
     Accepted,
     Refused(Refusal),
 }
 
 // What a submission answers.
-#[derive(Drop)]
+#[derive(Clone, Copy)]
 pub enum Answer {
     Issued,
     Waits,
@@ -58,14 +58,14 @@ pub enum Answer {
 }
 
 // The decision on a bio: the answer, and what the bio costs where it was priced.
-#[derive(Drop)]
+#[derive(Clone, Copy)]
 pub struct Ruling {
     pub answer: Answer,
     pub cost: Abs,
 }
 
 // What a tick answers: how many bios it released.
-#[derive(Drop)]
+#[derive(Clone, Copy)]
 pub enum Count {
     Released(usize),
     Refused(Refusal),

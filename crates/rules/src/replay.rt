@@ -4,7 +4,7 @@ use crate::budget::Controller;
 use crate::cost::{Bio, Rates};
 use crate::tree::Tree;
 
-#[derive(Drop)]
+#[derive(Clone, Copy)]
 pub enum Phase {
     Setup,
     Priced,
@@ -12,7 +12,7 @@ pub enum Phase {
     Stopped,
 }
 
-#[derive(Drop)]
+#[derive(Clone, Copy)]
 pub struct Replay {
     pub phase: Phase,
     pub tree: Tree,
@@ -21,20 +21,20 @@ pub struct Replay {
 }
 
 // How many bytes of lines were written, or that the lent buffer has too little room for what one record may print.
-#[derive(Drop)]
+#[derive(Clone, Copy)]
 pub enum Printed {
     Bytes(usize),
     Short,
 }
 
-#[derive(Drop)]
+#[derive(Clone, Copy)]
 pub struct Stepped {
     pub printed: Printed,
     pub replay: Replay,
 }
 
 // Why a replay goes no further in what it was lent: it is over, or it wants more bytes of the trace, or more room.
-#[derive(Drop)]
+#[derive(Clone, Copy)]
 pub enum Pause {
     Over,
     Bytes,
@@ -42,7 +42,7 @@ pub enum Pause {
 }
 
 // What is left of a chunk begins at `place`; `count` bytes of lines were written.
-#[derive(Drop)]
+#[derive(Clone, Copy)]
 pub struct Fed {
     pub pause: Pause,
     pub place: usize,
@@ -51,14 +51,14 @@ pub struct Fed {
 }
 
 // What is set by a call that charges nothing: the vrate, or one node's weight.
-#[derive(Drop)]
+#[derive(Clone, Copy)]
 pub enum Setting {
     Vrate(u16),
     Weight(u8, u16),
 }
 
 // What a record asks of the controller, if it is one that comes after start.
-#[derive(Drop)]
+#[derive(Clone, Copy)]
 pub enum Call {
     Bio(Bio),
     Tick(u64),
@@ -68,7 +68,7 @@ pub enum Call {
 }
 
 // Calls in a row: how many bytes of lines they wrote, where the next record begins, and the state there.
-#[derive(Drop)]
+#[derive(Clone, Copy)]
 pub struct Ran {
     pub count: usize,
     pub place: usize,

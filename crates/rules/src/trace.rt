@@ -2,7 +2,7 @@
 use crate::cost::{Bio, Rates};
 use crate::refusals::Refusal;
 
-#[derive(Drop)]
+#[derive(Clone, Copy)]
 pub enum Record {
     Node(u8, u16),
     Model(Rates),
@@ -15,7 +15,7 @@ pub enum Record {
 }
 
 // A record with the place behind it, the end of the trace, or why there is no record here.
-#[derive(Drop)]
+#[derive(Clone, Copy)]
 pub enum Read {
     Found(Record, usize),
     End,
@@ -23,7 +23,7 @@ pub enum Read {
 }
 
 // How many bytes a record took, or why it was not written.
-#[derive(Drop)]
+#[derive(Clone, Copy)]
 pub enum Write {
     Wrote(usize),
     Refused(Refusal),

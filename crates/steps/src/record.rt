@@ -14,7 +14,7 @@ use rules::replay::{Phase, Printed, Replay, Stepped};
 use rules::trace::{Read, Record};
 
 // What a step did: how many bytes it wrote, and the replay after it.
-#[derive(Drop)]
+#[derive(Clone, Copy)]
 pub(crate) struct StepDone {
     pub count: usize,
     pub replay: Replay,

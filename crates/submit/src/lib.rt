@@ -3,6 +3,7 @@
 // unless shares change. `rule` is the one decision, by what is the node's own; a question goes by it too. `decide` adds what
 // the answer does to that leaf and to the shares, from what it is shown of one leaf. The caller that holds the state, which is
 // `submit` here or a run of calls, carries this out where the state stands.
+#![tactic(auto)]
 ghost use Rattle.std.specs.Prelude.{◌≡◌, ◌^◌, ◌≤◌, ◌<◌};
 ghost use Rattle.rules.specs.Numbers.{cost_most, debt_most, nodes_most, queue_room};
 ghost use Rattle.rules.specs.Budget.{pushed, noted as noted_of, ends_donation, would_be};
@@ -76,7 +77,7 @@ fn ends_donation(answer: Answer) -> bool
 }
 
 // What a bio does to its leaf's queue: nothing, or it joins, at its cost.
-#[derive(Drop)]
+#[derive(Clone, Copy)]
 pub enum Queueing {
     Stays,
     Joins(Abs),
@@ -207,7 +208,7 @@ fn is_taken(answer: Answer) -> bool
 }
 
 // What a bio comes to on its leaf: the answer, the leaf's row after it, and what becomes of the queue.
-#[derive(Drop)]
+#[derive(Clone, Copy)]
 struct Judged {
     answer: Answer,
     row: Row,
@@ -237,7 +238,7 @@ fn booked(bio: Bio, answer: Answer, cost: Abs, share: u64, row: Row) -> Judged
 
 // What a bio is shown of the state: the sets, the model, and of the books at its place the share, the row and how many wait.
 // A queue is not handed about: to copy it takes longer than to judge the bio.
-#[derive(Drop)]
+#[derive(Clone, Copy)]
 pub struct View {
     pub leaves: u64,
     pub active: u64,
@@ -273,7 +274,7 @@ pub fn seen(
 
 // What a bio does to the shares of all: nothing, or its leaf is to become active before the bio is judged, or all return
 // to base shares.
-#[derive(Drop)]
+#[derive(Clone, Copy)]
 pub enum Shares {
     Stand,
     Activate,
@@ -281,7 +282,7 @@ pub enum Shares {
 }
 
 // What a bio comes to: the answer, what it does to the shares, the row at its place after it, and what becomes of the queue.
-#[derive(Drop)]
+#[derive(Clone, Copy)]
 pub struct Decision {
     pub answer: Answer,
     pub shares: Shares,

@@ -8,7 +8,7 @@ use crate::decoder;
 use rules::trace::Read;
 
 // "The reader keeps the .."
-#[derive(Drop)]
+#[derive(Clone, Copy)]
 pub struct Reader<'a> {
     pub trace: &'a [u8],
     pub at: usize,
