@@ -1,6 +1,7 @@
 // A set of nodes as the bits of a u64: node n is a member when bit n is 1. Every set of leaves and of nodes that the
 // controller holds is one; here are its membership and its changes, each of which leaves every other member as it was.
 #![tactic(auto)]
+
 ghost use Rattle.std.specs.Prelude.{◌≡◌, not, ◌&&◌, ◌||◌, ◌<◌, eqb};
 ghost use Rattle.rules.specs.Words.{has as member, set_of};
 ghost use Rattle.sets.specs.Lowest.{Lowest};

@@ -1,6 +1,7 @@
 // Units: the crossings between absolute cost and virtual time, the quotients behind them, and the rule for rising
 // shares. Nothing above makes one kind of number from the other in any other way; charging takes virtual time alone.
 #![tactic(auto)]
+
 ghost use Rattle.std.specs.Prelude.{◌≡◌, ◌+◌, ◌-◌, ◌*◌, ◌^◌, ◌≤◌, ◌<◌};
 ghost use Rattle.rules.specs.Units.{virt, ceil_of, relative, repayable as repayable_of, at_whole};
 ghost use Rattle.rules.specs.Budget.{rebudget as rebudget_of};

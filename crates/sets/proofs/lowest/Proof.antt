@@ -9,7 +9,7 @@ use Rattle.sets.proofs.lowest.Tie as tie
 returns : tie.Need-returns
 returns c = zeros_lowest c.args.set c.requires c.ranges.set.fits
 
-cast-result : tie.Need-overflow-cast-result
+cast-result : tie.Need-overflow_cast-result
 cast-result c = omega (arith, (zeros_lowest c.args.set c.requires c.ranges.set.fits).node)
 
 pub lowest-spec : {M : Type 1} → statement M

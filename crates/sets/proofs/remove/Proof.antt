@@ -5,7 +5,7 @@ use Rattle.rules.specs.Laws.Sets.{one_shift, remove_bit}
 use Rattle.sets.proofs.remove.Statement.{statement}
 use Rattle.sets.proofs.remove.Tie as tie
 
-shl_one : tie.Need-overflow-shl-one
+shl_one : tie.Need-overflow_shl-one
 shl_one c = search rules
 
 returns : tie.Need-returns

@@ -4,13 +4,13 @@ use borrow.Author.Rules.{rules}
 use Rattle.units.proofs.ceil_div.Statement.{statement}
 use Rattle.units.proofs.ceil_div.Tie as tie
 
-sub-result : tie.Need-overflow-sub-result
+sub-result : tie.Need-overflow_sub-result
 sub-result c = search rules
 
-add-result : tie.Need-overflow-add-result
+add-result : tie.Need-overflow_add-result
 add-result c = search rules
 
-div-result : tie.Need-nonzero-div-result
+div-result : tie.Need-nonzero_div-result
 div-result c = search rules
 
 returns : tie.Need-returns

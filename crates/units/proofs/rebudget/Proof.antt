@@ -6,10 +6,10 @@ use Rattle.rules.specs.Budget.{rebudget}
 use Rattle.units.proofs.rebudget.Statement.{statement}
 use Rattle.units.proofs.rebudget.Tie as tie
 
-mul-rescaled : tie.Need-overflow-mul-rescaled
+mul-rescaled : tie.Need-overflow_mul-rescaled
 mul-rescaled c = search rules
 
-div-rescaled : tie.Need-nonzero-div-rescaled
+div-rescaled : tie.Need-nonzero_div-rescaled
 div-rescaled c = search rules
 
 returns : tie.Need-returns
