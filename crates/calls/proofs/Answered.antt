@@ -14,9 +14,9 @@ use Rattle.rules.specs.Chunks.{call_of, calling}
 use Rattle.rules.specs.Entries.{submitted, ticked, ticked_by, lent_by, lent_of, planned, set_by}
 use Rattle.rules.specs.Invariant.{Sound}
 use Rattle.rules.specs.Buffers.{Written}
-use Rattle.rules.specs.Laws.Lines.{share_lines_lem}
-use Rattle.rules.specs.Laws.Ticks.{tick_releases_fit}
-use Rattle.rules.specs.Laws.Bools.{never}
+use Rattle.rules.proofs.Laws.Lines.{share_lines_lem}
+use Rattle.rules.proofs.Laws.Ticks.{tick_releases_fit}
+use Rattle.rules.proofs.Laws.Bools.{never}
 use Rattle.rules.specs.declared.cost.Bio.{Bio}
 use Rattle.rules.specs.declared.budget.Controller.{Controller}
 use Rattle.rules.specs.declared.budget.Submitted.{Submitted}

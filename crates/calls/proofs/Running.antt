@@ -15,9 +15,9 @@ use Rattle.rules.specs.Replay.{next_place, all_room}
 use Rattle.rules.specs.Chunks.{call_of, is_call, calling, still, called_before, run_from}
 use Rattle.rules.specs.Invariant.{Sound}
 use Rattle.rules.specs.Buffers.{Written, Stands, rest_of, put_back}
-use Rattle.rules.specs.Laws.Bools.{and_left, and_right}
-use Rattle.rules.specs.Laws.Buffers.{stands_none, stands_kept, stands_rest, stands_fits, stands_more}
-use Rattle.rules.specs.Laws.Runs.{calling_keeps, run_goes}
+use Rattle.rules.proofs.Laws.Bools.{and_left, and_right}
+use Rattle.rules.proofs.Laws.Buffers.{stands_none, stands_kept, stands_rest, stands_fits, stands_more}
+use Rattle.rules.proofs.Laws.Runs.{calling_keeps, run_goes}
 use Rattle.rules.specs.declared.cost.Bio.{Bio}
 use Rattle.rules.specs.declared.budget.Controller.{Controller}
 use Rattle.rules.specs.declared.trace.Read.{Read}

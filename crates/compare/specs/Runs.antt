@@ -6,8 +6,8 @@ use Rattle.std.proofs.Math.Path.{refl, sym, ap}
 use Rattle.std.proofs.Common.{◌∙◌, append-nil, arith}
 use Rattle.rules.specs.Trace.{read_at}
 use Rattle.rules.specs.Chunks.{is_cut as is_cut_read}
-use Rattle.rules.specs.Laws.Bools.{never, true_not_false, and_swap}
-use Rattle.rules.specs.Laws.Pieces.{same_with_more, shifted, shifted_with_less}
+use Rattle.rules.proofs.Laws.Bools.{never, true_not_false, and_swap}
+use Rattle.rules.proofs.Laws.Pieces.{same_with_more, shifted, shifted_with_less}
 use Rattle.rules.specs.declared.trace.Read.{Read}
 use Rattle.rules.specs.declared.trace.Read.TheVariants.{Found, End as EndOf, Refused as Unread}
 use Rattle.comparison.specs.Compare.{extent_of, extent_at, step_by, step_at, is_pair, error_of}

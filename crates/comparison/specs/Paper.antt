@@ -4,11 +4,11 @@ use Rattle.std.specs.Prelude.{◌≡◌, refl, cond, List, [], ◌∷◌, ◌++�
 use Rattle.std.proofs.Math.Path.{ap}
 use Rattle.std.proofs.Common.{◌∙◌}
 use Rattle.rules.specs.Refusals.{number, Paper, paper, due, read_number, read_checks}
-use Rattle.rules.specs.Laws.Refusals.{read_on_paper}
+use Rattle.rules.proofs.Laws.Refusals.{read_on_paper}
 use Rattle.rules.specs.declared.trace.Read.{Read}
 use Rattle.comparison.specs.Compare.{extent_of, extent_at, records_end, error_by, error_in, else_error, error_of, walked, concluded, compared_from, unless_error, compared}
-use Rattle.rules.specs.Laws.Trace.{Reading, each_answer}
-use Rattle.rules.specs.Laws.Trace.Reading.{beyond, ended, unknown, cut, whole}
+use Rattle.rules.proofs.Laws.Trace.{Reading, each_answer}
+use Rattle.rules.proofs.Laws.Trace.Reading.{beyond, ended, unknown, cut, whole}
 use Rattle.comparison.specs.declared.Side.{Side}
 use Rattle.comparison.specs.declared.Side.TheVariants.{First, Second}
 use Rattle.comparison.specs.declared.Difference.{Difference}

@@ -10,7 +10,7 @@ use mathlib.Core.List.{List, [], ◌∷◌, ◌++◌, append-nil}
 use Rattle.std.proofs.Math.Logic.{inl, inr}
 use Rattle.std.proofs.Math.ListN.{length}
 use Rattle.std.proofs.Math.Seq.{drop-length}
-use Rattle.rules.specs.Laws.Bools.{never, true_not_false, same_test}
+use Rattle.rules.proofs.Laws.Bools.{never, true_not_false, same_test}
 use Rattle.rules.specs.declared.refusals.Refusal.{Refusal}
 use Rattle.comparison.specs.Compare.{extent_at, records_end, error_by, error_in, else_error, error_of, same_bytes, at_start, walked, concluded, troubled, unless_error, compared_from, compared, longer_by, longer_of, rest_by, rest_of}
 use Rattle.comparison.specs.Laws.Records.{Records, joined, records_make_the_trace, one_list_of_records, without_error, kind_in, difference_in, ends_in, likeness_in, listed, compared_by_the_records}

@@ -6,8 +6,8 @@ use Rattle.rules.specs.Cost.{priced}
 use Rattle.rules.specs.Budget.{fresh}
 use Rattle.rules.specs.Refusals.{first_of, tree_checks, rate_checks, start_checks}
 use Rattle.rules.specs.Entries.{pricing, pricing_by, tree_verdict, started, started_by}
-use Rattle.rules.specs.Laws.Verdicts.{first_passed, first_refused}
-use Rattle.rules.specs.Laws.Bools.{never}
+use Rattle.rules.proofs.Laws.Verdicts.{first_passed, first_refused}
+use Rattle.rules.proofs.Laws.Bools.{never}
 use Rattle.rules.specs.declared.cost.Rates.{Rates}
 use Rattle.rules.specs.declared.cost.Model.{Model}
 use Rattle.rules.specs.declared.tree.Tree.{Tree}

@@ -9,8 +9,8 @@ use Rattle.rules.specs.Budget.{row_at, share_at, with_tree, with_sharing, with_b
 use Rattle.rules.specs.Refusals.{first_of, weight_checks}
 use Rattle.rules.specs.Entries.{weighted, weighted_by}
 use Rattle.rules.specs.Invariant.{worth_most, SoundTree, Within, Sound}
-use Rattle.rules.specs.Laws.Passes.{weight_passes}
-use Rattle.rules.specs.Laws.Weights.{below_root_inside, weight_keeps_each_leaf, weight_keeps_sound_trees}
+use Rattle.rules.proofs.Laws.Passes.{weight_passes}
+use Rattle.rules.proofs.Laws.Weights.{below_root_inside, weight_keeps_each_leaf, weight_keeps_sound_trees}
 use Rattle.rules.specs.declared.tree.Tree.{Tree}
 use Rattle.rules.specs.declared.budget.Controller.{Controller}
 use Rattle.rules.specs.declared.budget.Outcome.{Outcome}

@@ -15,11 +15,11 @@ use Rattle.rules.specs.Numbers.{whole, nodes_most, leaf_most}
 use Rattle.rules.specs.Words.{sum_to, any_to, table, has, set_of}
 use Rattle.rules.specs.Units.{floor_of}
 use Rattle.rules.specs.Plan.{is_taker, is_donation, sum_over, taken_of, is_lowest, remainder, share_given, donated}
-use Rattle.rules.specs.Laws.Bools.{true_not_false, and_both, and_not_left, and_not_right}
-use Rattle.rules.specs.Laws.Sums.{sum_cong, sum_in, any_cong, any_in, none_any}
-use Rattle.rules.specs.Laws.Tables.{table_at, table_cong, table_set}
-use Rattle.rules.specs.Laws.Sets.{has_none, has_set_of, set_small, some_leaf}
-use Rattle.rules.specs.Laws.Donation.{taker_active, taker_no_donor, is_taker_lem, one_taker, S, D, T, bases_split, share_parts, takes_fit, targets_lower}
+use Rattle.rules.proofs.Laws.Bools.{true_not_false, and_both, and_not_left, and_not_right}
+use Rattle.rules.proofs.Laws.Sums.{sum_cong, sum_in, any_cong, any_in, none_any}
+use Rattle.rules.proofs.Laws.Tables.{table_at, table_cong, table_set}
+use Rattle.rules.proofs.Laws.Sets.{has_none, has_set_of, set_small, some_leaf}
+use Rattle.rules.proofs.Laws.Donation.{taker_active, taker_no_donor, is_taker_lem, one_taker, S, D, T, bases_split, share_parts, takes_fit, targets_lower}
 use Rattle.sets.specs.Lowest.{Lowest}
 use Rattle.donation.specs.Donation.{Donation, Parts}
 

@@ -7,9 +7,9 @@ use Rattle.rules.specs.Words.{has}
 use Rattle.rules.specs.Tree.{base_shares, is_thin}
 use Rattle.rules.specs.Plan.{is_taker, is_donation, sum_over}
 use Rattle.rules.specs.Invariant.{SoundTree, Within}
-use Rattle.rules.specs.Laws.Trees.{no_root_within}
-use Rattle.rules.specs.Laws.Shares.{base_shares_at, base_shares_end, leaves_share_at_most_whole, not_thin_keeps_the_floor}
-use Rattle.rules.specs.Laws.Resharing.{active_node, bases_sum}
+use Rattle.rules.proofs.Laws.Trees.{no_root_within}
+use Rattle.rules.proofs.Laws.Shares.{base_shares_at, base_shares_end, leaves_share_at_most_whole, not_thin_keeps_the_floor}
+use Rattle.rules.proofs.Laws.Resharing.{active_node, bases_sum}
 use Rattle.rules.specs.declared.tree.Tree.{Tree}
 
 -- the root is no leaf, each active leaf has a base share, and a donor is active and its target is no more than its base share

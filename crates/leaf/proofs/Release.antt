@@ -12,8 +12,8 @@ use borrow.Author.Tests.{ltb-false}
 use Rattle.rules.specs.Units.{abs}
 use Rattle.rules.specs.Budget.{popped, oldest_id, oldest_cost, charged, owes, fits}
 use Rattle.rules.specs.Tick.{Release, no_release, and_capped, gained, repayment, repaid, release_in, capped, lent_after}
-use Rattle.rules.specs.Laws.Queues.{popped_sound, oldest_cost_most}
-use Rattle.rules.specs.Laws.Rows.{repayment_of_nothing}
+use Rattle.rules.proofs.Laws.Queues.{popped_sound, oldest_cost_most}
+use Rattle.rules.proofs.Laws.Rows.{repayment_of_nothing}
 use Rattle.rules.specs.declared.units.Abs.{Abs}
 use Rattle.rules.specs.declared.units.Virt.{Virt}
 use Rattle.rules.specs.declared.budget.Row.{Row}

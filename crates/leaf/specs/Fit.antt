@@ -6,10 +6,10 @@ use Rattle.rules.specs.Numbers.{whole, queue_room, share_floor, cost_most, debt_
 use Rattle.rules.specs.Units.{relative}
 use Rattle.rules.specs.Budget.{row_at, queue_at, share_at, fits}
 use Rattle.rules.specs.Tick.{gained, repayment, repaid}
-use Rattle.rules.specs.Laws.Rows.{repayment_most, repayment_within, repayment_is_affordable, repaid_pays}
+use Rattle.rules.proofs.Laws.Rows.{repayment_most, repayment_within, repayment_is_affordable, repaid_pays}
 use Rattle.rules.specs.Words.{has}
 use Rattle.rules.specs.Invariant.{Sound, SoundRow, SoundQueue, worth_most}
-use Rattle.rules.specs.Laws.States.{active_pos, active_most, share_most, usage_small_at}
+use Rattle.rules.proofs.Laws.States.{active_pos, active_most, share_most, usage_small_at}
 use Rattle.rules.specs.declared.units.Abs.{Abs}
 use Rattle.rules.specs.declared.units.Virt.{Virt}
 use Rattle.rules.specs.declared.budget.Row.{Row}

@@ -8,7 +8,7 @@ use Rattle.std.proofs.Math.Bool.{true, false}
 use borrow.Author.Tests.{not-true, ltb-false}
 use Rattle.rules.specs.Budget.{popped, oldest_id, oldest_cost, charged, owes, fits}
 use Rattle.rules.specs.Tick.{Release, no_release, and_first, and_capped, and_repaid, gained, repayment, repaid, release_in, released, capped, turn, lent_after}
-use Rattle.rules.specs.Laws.Bools.{and_left, and_right}
+use Rattle.rules.proofs.Laws.Bools.{and_left, and_right}
 use Rattle.rules.specs.declared.units.Virt.{Virt}
 use Rattle.rules.specs.declared.budget.Row.{Row}
 use Rattle.rules.specs.declared.budget.Queue.{Queue}

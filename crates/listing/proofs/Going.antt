@@ -9,8 +9,8 @@ use native.Mathlib.Omega.{arith}
 use lib.ListN.{length}
 use borrow.Author.Tests.{le-leb, lt-leb}
 use Rattle.rules.specs.Buffers.{Written, Stands, rest_of, put_back}
-use Rattle.rules.specs.Laws.Bools.{and_both, and_not_left, and_not_right}
-use Rattle.rules.specs.Laws.Buffers.{stands_none, stands_kept, stands_rest, stands_fits, stands_more}
+use Rattle.rules.proofs.Laws.Bools.{and_both, and_not_left, and_not_right}
+use Rattle.rules.proofs.Laws.Buffers.{stands_none, stands_kept, stands_rest, stands_fits, stands_more}
 use Rattle.comparison.specs.Compare.{is_pair}
 use Rattle.comparison.specs.declared.Step.{Step}
 use Rattle.text.specs.Lines.{differs_room}

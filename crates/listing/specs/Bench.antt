@@ -3,7 +3,7 @@
 use Rattle.std.specs.Prelude.{◌≡◌, refl, true, false, cond, List, [], ◌∷◌, ℕ}
 use Rattle.rules.specs.Bench.Edges.{Seen, see, all_same}
 use Rattle.rules.specs.Trace.{bytes_of, number_of, is_kind, layout, fields_of, record_of, body_of, record_bytes, fields_from, behind, read_kind, read_at}
-use Rattle.rules.specs.Laws.Trace.{trace_of}
+use Rattle.rules.proofs.Laws.Trace.{trace_of}
 use Rattle.rules.specs.Replay.{digits, digits_in}
 use Rattle.comparison.specs.Compare.{extent_at, records_end_from, records_end, error_in, error_of, step_by, step_at, passed, walk_from, walked, concluded, compared_from, compared, rest_of}
 use Rattle.comparison.specs.Bench.{whole_case, id_eight}

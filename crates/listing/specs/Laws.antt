@@ -5,7 +5,7 @@ use Rattle.std.proofs.Math.Path.{refl, sym}
 use Rattle.std.proofs.Common.{ap, arith}
 use Prim.Native.Nat.{ℕ, zero, suc, ◌+◌, ◌-◌, ◌≤◌, ◌<◌}
 use Rattle.std.proofs.Math.ListN.{length}
-use Rattle.rules.specs.Laws.Bools.{true_not_false, is_false, and_left, and_not_left}
+use Rattle.rules.proofs.Laws.Bools.{true_not_false, is_false, and_left, and_not_left}
 use Rattle.comparison.specs.Compare.{is_pair}
 use Rattle.comparison.specs.Laws.Steps.{Stepping, each_step}
 use Rattle.comparison.specs.Laws.Steps.Stepping.{same, differ, first_ends, second_ends, both_end, first_broken, second_broken}

@@ -3,7 +3,7 @@
 use Rattle.std.specs.Prelude.{◌≡◌, Bool, true, false, cond, ◌&&◌, List, [], ◌++◌, ℕ, zero, suc, ◌+◌, ◌-◌, ◌*◌, ◌^◌, ◌≤◌, ◌<◌, leb, length, get_or}
 use Rattle.rules.specs.Trace.{is_kind}
 use Rattle.rules.specs.Buffers.{Written}
-use Rattle.rules.specs.Laws.Trace.{record_at, end_at}
+use Rattle.rules.proofs.Laws.Trace.{record_at, end_at}
 use Rattle.comparison.specs.Compare.{step_at, is_pair, ends_by, likeness_by, longer_by, rest_of, error_of, compared}
 use Rattle.text.specs.Lines.{differs_line, ends_line, rest_line, likeness_line, error_line, differs_room, short_room}
 use Rattle.comparison.specs.declared.Side.TheVariants.{First, Second}

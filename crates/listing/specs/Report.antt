@@ -8,7 +8,7 @@ use Rattle.std.proofs.Math.Bool.{true, false}
 use mathlib.Core.List.{List, [], ◌++◌, append_assoc}
 use Prim.Native.Nat.{ℕ, zero, suc, ◌+◌, ◌-◌, ◌≤◌}
 use Rattle.std.proofs.Math.ListN.{length, drop}
-use Rattle.rules.specs.Laws.Bools.{never}
+use Rattle.rules.proofs.Laws.Bools.{never}
 use Rattle.comparison.specs.Compare.{error_of, between, is_pair, passed, step_of, at_start as walk_start, walk_from, walked, ends_by, likeness_by, concluded, compared_from, compared, longer_by, longer_of, rest_by, rest_of}
 use Rattle.comparison.specs.Laws.Steps.{Stepping, each_step, walk_here, walk_on_lem, walk_on}
 use Rattle.comparison.specs.Laws.Steps.Stepping.{same, differ, first_ends, second_ends, both_end, first_broken, second_broken}

@@ -10,9 +10,9 @@ use Rattle.std.proofs.Math.ListN.{length}
 use Rattle.std.proofs.lemmas.List.{take-append-le, drop-append-le}
 use Rattle.rules.specs.Trace.{kind_of, read_at}
 use Rattle.rules.specs.Chunks.{is_cut}
-use Rattle.rules.specs.Laws.Bools.{true_not_false, and_left}
-use Rattle.rules.specs.Laws.Trace.{record_at}
-use Rattle.rules.specs.Laws.Pieces.{same_with_more, shifted, shifted_with_less}
+use Rattle.rules.proofs.Laws.Bools.{true_not_false, and_left}
+use Rattle.rules.proofs.Laws.Trace.{record_at}
+use Rattle.rules.proofs.Laws.Pieces.{same_with_more, shifted, shifted_with_less}
 use Rattle.rules.specs.declared.trace.Record.{Record}
 use Rattle.rules.specs.declared.trace.Read.TheVariants.{Found}
 use Rattle.comparison.specs.Compare.{between, is_pair}

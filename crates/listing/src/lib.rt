@@ -6,7 +6,7 @@ ghost use Rattle.std.specs.Prelude.{◌≡◌, ◌+◌, ◌^◌, ◌≤◌, ◌<
 ghost use Rattle.rules.specs.Buffers.{Written};
 ghost use Rattle.comparison.specs.Compare.{step_at};
 ghost use Rattle.text.specs.Lines.{differs_room, short_room};
-ghost use Rattle.rules.specs.Laws.Trace.{record_at};
+ghost use Rattle.rules.proofs.Laws.Trace.{record_at};
 ghost use Rattle.listing.specs.Listing.{WholeHere, Holds, differs_at, line_by, advanced, Lists, rest_line_by, closing_by, closing_room};
 
 use comparison::answer::{ends_by, likeness_by, longer_of};

@@ -18,14 +18,14 @@ use Rattle.rules.specs.Plan.{usage_all, is_quiet, forgiven, target_of, is_donor,
 use Rattle.rules.specs.Refusals.{plan_checks}
 use Rattle.rules.specs.Entries.{planned_by, planned}
 use Rattle.rules.specs.Invariant.{worth_most, Sound, SoundTree, Within}
-use Rattle.rules.specs.Laws.Bools.{true_not_false, is_false}
-use Rattle.rules.specs.Laws.Sets.{set_cong}
-use Rattle.rules.specs.Laws.Sums.{sum_cong}
-use Rattle.rules.specs.Laws.Tables.{table_at, table_cong, get_D_inside}
-use Rattle.rules.specs.Laws.Sweeps.{swept, place_here, place_put, places_done}
-use Rattle.rules.specs.Laws.States.{usage_small}
-use Rattle.rules.specs.Laws.Trees.{no_root_within}
-use Rattle.rules.specs.Laws.Plans.{closed_worth, after_within, donor_active, donor_is}
+use Rattle.rules.proofs.Laws.Bools.{true_not_false, is_false}
+use Rattle.rules.proofs.Laws.Sets.{set_cong}
+use Rattle.rules.proofs.Laws.Sums.{sum_cong}
+use Rattle.rules.proofs.Laws.Tables.{table_at, table_cong, get_D_inside}
+use Rattle.rules.proofs.Laws.Sweeps.{swept, place_here, place_put, places_done}
+use Rattle.rules.proofs.Laws.States.{usage_small}
+use Rattle.rules.proofs.Laws.Trees.{no_root_within}
+use Rattle.rules.proofs.Laws.Plans.{closed_worth, after_within, donor_active, donor_is}
 use Rattle.donation.specs.Donation as donation
 use Rattle.plan.specs.Sharing.{CanShare, sharing_of, Shown, put_plan}
 use Rattle.plan.specs.Steps.{usage_at, closed_row, planned_row, planned_at, usage_of, staying_of, targets_of, donors_of, planned_rows}

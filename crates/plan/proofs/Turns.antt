@@ -15,9 +15,9 @@ use borrow.Author.Tests.{le-leb, lt-leb, eq-eqb, ne_eqb}
 use Rattle.rules.specs.Numbers.{whole, nodes_most}
 use Rattle.rules.specs.Words.{has, set_to, set_of}
 use Rattle.rules.specs.Plan.{used_share, target_of}
-use Rattle.rules.specs.Laws.Bools.{and_not_right, or_right, or_neither}
-use Rattle.rules.specs.Laws.Sets.{set_small, set_cong, set_back, set_ext, has_set, has_past, has_set_of, set_of_fits, insert_here, insert_others}
-use Rattle.rules.specs.Laws.Units.{ceil_least}
+use Rattle.rules.proofs.Laws.Bools.{and_not_right, or_right, or_neither}
+use Rattle.rules.proofs.Laws.Sets.{set_small, set_cong, set_back, set_ext, has_set, has_past, has_set_of, set_of_fits, insert_here, insert_others}
+use Rattle.rules.proofs.Laws.Units.{ceil_least}
 use Rattle.plan.specs.Steps.{left_at}
 use Rattle.rules.specs.declared.units.Abs.{Abs}
 use Rattle.rules.specs.declared.units.Virt.{Virt}

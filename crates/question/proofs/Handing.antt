@@ -11,8 +11,8 @@ use Rattle.rules.specs.Budget.{row_at, share_at, would_be}
 use Rattle.rules.specs.Refusals.{answer_paper, answer_values, paper_of, submit_checks}
 use Rattle.rules.specs.Question.{own_at, own_of, asked, question}
 use Rattle.rules.specs.Invariant.{Sound}
-use Rattle.rules.specs.Laws.Trees.{leaves_are}
-use Rattle.rules.specs.Laws.Questions.{question_on_paper}
+use Rattle.rules.proofs.Laws.Trees.{leaves_are}
+use Rattle.rules.proofs.Laws.Questions.{question_on_paper}
 use Rattle.rules.specs.declared.cost.Bio.{Bio}
 use Rattle.rules.specs.declared.cost.Model.{Model}
 use Rattle.rules.specs.declared.budget.Own.{Own}

@@ -8,8 +8,8 @@ use Rattle.rules.specs.Trace.{read_at}
 use Rattle.rules.specs.Replay.{beginning, replay}
 use Rattle.rules.specs.Chunks.{Part, part, pause_of}
 use Rattle.rules.specs.Invariant.{Playing}
-use Rattle.rules.specs.Laws.Cuts.{Played, however_cut}
-use Rattle.rules.specs.Laws.Cuts.Played.{feed, more, over}
+use Rattle.rules.proofs.Laws.Cuts.{Played, however_cut}
+use Rattle.rules.proofs.Laws.Cuts.Played.{feed, more, over}
 use Rattle.rules.specs.declared.replay.Replay.{Replay}
 use Rattle.rules.specs.declared.replay.Fed.{Fed}
 use Rattle.rules.specs.declared.replay.Pause.{Pause}

@@ -10,7 +10,7 @@ use lib.Dec.{leb, ltb}
 use lib.ListN.{length, get_or, drop, drop_of_length-le}
 use lib.Seq.{drop-cons}
 use borrow.Author.Tests.{ltb-false, le-ltb, lt-ltb, le-leb, lt-leb}
-use Rattle.rules.specs.Laws.Bools.{never, and_left, and_not_right}
+use Rattle.rules.proofs.Laws.Bools.{never, and_left, and_not_right}
 use Rattle.rests.specs.Decimal.{is_digit, grown, all_digits, value_behind, number_if, behind, decimal_of, with_digit}
 use Rattle.rests.specs.declared.number.Number.TheVariants.{Is, Bad}
 

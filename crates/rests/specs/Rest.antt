@@ -4,8 +4,8 @@ use Rattle.std.specs.Prelude.{◌≡◌, List, [], ◌++◌, ℕ, ◌+◌, ◌�
 use Rattle.std.proofs.Math.Path.{refl, sym, ap}
 use Rattle.std.proofs.Common.{◌∙◌, ⊎_elim, arith, length-append, drop_at}
 use Rattle.rules.specs.Trace.{read_at}
-use Rattle.rules.specs.Laws.Bools.{never}
-use Rattle.rules.specs.Laws.Pieces.{shifted, shifted_with_less}
+use Rattle.rules.proofs.Laws.Bools.{never}
+use Rattle.rules.proofs.Laws.Pieces.{shifted, shifted_with_less}
 use Rattle.rules.specs.declared.trace.Record.{Record}
 use Rattle.rules.specs.declared.trace.Read.{Read}
 use Rattle.rules.specs.declared.trace.Read.TheVariants.{Found, End, Refused as Unread}

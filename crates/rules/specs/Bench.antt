@@ -135,7 +135,7 @@ plan11 = (planned (running tree6 (used 100000000 ∷ used 100000000 ∷ used 100
 unfoldable pub waits12 : Controller
 waits12 = (submitted (bio 2 0 1048576) (put_leaf 2 (with_budget (virt 1000000) (row_at plan10 2)) (queue_at plan10 2) plan10)).state
 
-pub cases : List Case
+unfoldable pub cases : List Case
 cases =
     B 1 (cost_number (costing M empty_row (bio 1 0 512))) 100000
     ∷ B 1 (cost_number (costing M empty_row (bio 1 0 4096))) 100000
@@ -178,27 +178,19 @@ abbrev pub all_right : List Case → Bool
 all_right [] = true
 all_right (c ∷ cs) = eqb c.got c.want && all_right cs
 
-pub bench : all_right cases ≡ true
-unfolding computed cases on_debt9 tick9 later9 plan10 plan11 waits12
-bench = refl
-
 -- ---- the whole case: a trace's bytes, and the bytes that its replay prints
 abbrev pub bytes_of_all : List Record → List ℕ
 bytes_of_all [] = []
 bytes_of_all (r ∷ rs) = record_bytes r ++ bytes_of_all rs
 
-pub whole_trace : List ℕ
+unfoldable pub whole_trace : List ℕ
 whole_trace =
     bytes_of_all (Node 0 100 ∷ Node 0 300 ∷ ModelOf (rates_M 50000) ∷ Start 0 ∷ BioOf (bio 1 0 4096) ∷ Tick 100000 ∷ Tick 400000 ∷ Plan ∷ [])
 
 -- W 7, r 7, P 1 1073741824
-pub whole_output : List ℕ
+unfoldable pub whole_output : List ℕ
 whole_output =
     87 ∷ 32 ∷ 55 ∷ 10
     ∷ 114 ∷ 32 ∷ 55 ∷ 10
     ∷ 80 ∷ 32 ∷ 49 ∷ 32 ∷ 49 ∷ 48 ∷ 55 ∷ 51 ∷ 55 ∷ 52 ∷ 49 ∷ 56 ∷ 50 ∷ 52 ∷ 10
     ∷ []
-
-pub whole_case_lem : replay whole_trace ≡ whole_output
-unfolding computed whole_trace whole_output
-whole_case_lem = refl

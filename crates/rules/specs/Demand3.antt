@@ -2,7 +2,6 @@
 -- that each head is what the answers say, what any list of calls adds up to, and the sentences that the customer wrote; then
 -- that virtual time is exact but for one rounding, which leaves a plan leaves active, which tree is in force, and that a trace's
 -- run is such a list.
-pub mod Steps
 pub mod Heads
 pub mod Sentences
 pub mod Times

@@ -15,6 +15,5 @@ pub mod Chunks
 pub mod Buffers
 pub mod Ledger
 pub mod Bench
-pub mod Laws
 pub mod Invariant
 pub mod Demand3

@@ -8,7 +8,7 @@ use native.Mathlib.Omega.{arith}
 use lib.Count.{count_trailing_zeros, under}
 use lib.Dec.{eqb}
 use Rattle.rules.specs.Words.{has}
-use Rattle.rules.specs.Laws.Sets.{has_node}
+use Rattle.rules.proofs.Laws.Sets.{has_node}
 use Rattle.sets.specs.Lowest.{Lowest}
 
 -- a member of the half is the next one of the whole

@@ -6,8 +6,8 @@ use Rattle.std.proofs.Math.Logic.{dite}
 use Rattle.std.proofs.Math.Decide.{dec_lt}
 use Rattle.rules.specs.Numbers.{nodes_most}
 use Rattle.rules.specs.Words.{has, set_of}
-use Rattle.rules.specs.Laws.Bools.{true_not_false}
-use Rattle.rules.specs.Laws.Sets.{has_none, has_small, set_of_fits, set_of_past, remove_here, remove_others, remove_from, remove_less}
+use Rattle.rules.proofs.Laws.Bools.{true_not_false}
+use Rattle.rules.proofs.Laws.Sets.{has_none, has_small, set_of_fits, set_of_past, remove_here, remove_others, remove_from, remove_less}
 use Rattle.sets.specs.Lowest.{Lowest}
 
 pub record LeftOf (all left : ℕ) : Type 0 where

@@ -14,12 +14,12 @@ use Rattle.rules.specs.Replay.{is_stopped, read_step, next_place, stepped}
 use Rattle.rules.specs.Chunks.{Run, call_of, is_call, is_running, runs, run_from, is_end, wants_bytes, halts, pause_of, nothing, printed_before, part_from, part, fed}
 use Rattle.rules.specs.Invariant.{Playing}
 use Rattle.rules.specs.Buffers.{Stands, rest_of, put_back}
-use Rattle.rules.specs.Laws.Bools.{true_not_false, and_left, and_right, or_not_left, or_not_right}
-use Rattle.rules.specs.Laws.Buffers.{stands_none, stands_kept, stands_rest, stands_fits, stands_more}
-use Rattle.rules.specs.Laws.Replays.{read_step_plays}
-use Rattle.rules.specs.Laws.Runs.{Continues, holding, call_moves, run_keeps, run_continues, run_moves}
-use Rattle.rules.specs.Laws.Chunks.{going_steps, step_at, next_at, AfterStep, after_a_step, part_inside}
-use Rattle.rules.specs.Laws.Chunks.AfterStep.{goes_on, stops, ends}
+use Rattle.rules.proofs.Laws.Bools.{true_not_false, and_left, and_right, or_not_left, or_not_right}
+use Rattle.rules.proofs.Laws.Buffers.{stands_none, stands_kept, stands_rest, stands_fits, stands_more}
+use Rattle.rules.proofs.Laws.Replays.{read_step_plays}
+use Rattle.rules.proofs.Laws.Runs.{Continues, holding, call_moves, run_keeps, run_continues, run_moves}
+use Rattle.rules.proofs.Laws.Chunks.{going_steps, step_at, next_at, AfterStep, after_a_step, part_inside}
+use Rattle.rules.proofs.Laws.Chunks.AfterStep.{goes_on, stops, ends}
 use Rattle.calls.specs.Calls.{RanAs}
 use Rattle.steps.specs.Fed.{Feeds}
 use Rattle.steps.specs.OneStep.{DoesStep}

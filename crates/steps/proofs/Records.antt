@@ -19,8 +19,8 @@ use Rattle.rules.specs.Trace.{kind_of, read_at}
 use Rattle.rules.specs.Replay.{Step, within, stops_at, silent, grown, in_phase, is_stopped}
 use Rattle.rules.specs.Replay.{node_step, model_step, start_step, record_step, read_step, stepped, next_place}
 use Rattle.rules.specs.Chunks.{Run, call_of, is_call, is_running, runs, calling, still, called_before, run_from, stepping, stepped_to}
-use Rattle.rules.specs.Laws.Bools.{never, true_not_false, and_right}
-use Rattle.rules.specs.Laws.Runs.{call_steps, holding, run_goes}
+use Rattle.rules.proofs.Laws.Bools.{never, true_not_false, and_right}
+use Rattle.rules.proofs.Laws.Runs.{call_steps, holding, run_goes}
 use Rattle.rules.specs.declared.cost.Rates.{Rates}
 use Rattle.rules.specs.declared.cost.Model.{Model}
 use Rattle.rules.specs.declared.tree.Tree.{Tree}

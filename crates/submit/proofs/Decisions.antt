@@ -22,13 +22,13 @@ use Rattle.rules.specs.Cost.{is_forced}
 use Rattle.rules.specs.Entries.{costing, submitted}
 use Rattle.rules.specs.Question.{refused_by, when_active, when_inactive, ruling}
 use Rattle.rules.specs.Invariant.{worth_most, Sound, SoundQueue, SoundTree, Within}
-use Rattle.rules.specs.Laws.Bools.{never, true_not_false, is_false, and_not_right}
-use Rattle.rules.specs.Laws.Trees.{leaves_are, root_no_leaf}
-use Rattle.rules.specs.Laws.Submits.{put_each}
-use Rattle.rules.specs.Laws.Costs.{bio_in_range_lem, costing_costs_exactly_when}
-use Rattle.rules.specs.Laws.Tables.{get_D_inside}
-use Rattle.rules.specs.Laws.Resharing.{active_with, entering_keeps}
-use Rattle.rules.specs.Laws.Decisions.{entered_active}
+use Rattle.rules.proofs.Laws.Bools.{never, true_not_false, is_false, and_not_right}
+use Rattle.rules.proofs.Laws.Trees.{leaves_are, root_no_leaf}
+use Rattle.rules.proofs.Laws.Submits.{put_each}
+use Rattle.rules.proofs.Laws.Costs.{bio_in_range_lem, costing_costs_exactly_when}
+use Rattle.rules.proofs.Laws.Tables.{get_D_inside}
+use Rattle.rules.proofs.Laws.Resharing.{active_with, entering_keeps}
+use Rattle.rules.proofs.Laws.Decisions.{entered_active}
 use Rattle.rules.specs.declared.units.Abs.{Abs}
 use Rattle.rules.specs.declared.cost.Bio.{Bio}
 use Rattle.rules.specs.declared.tree.Tree.{Tree}

@@ -8,9 +8,9 @@ use Rattle.rules.specs.Numbers.{queue_room}
 use Rattle.rules.specs.Cost.{is_forced}
 use Rattle.rules.specs.Entries.{costing}
 use Rattle.rules.specs.Question.{refused_by, when_active, when_inactive, ruling_by, ruling}
-use Rattle.rules.specs.Laws.Bools.{true_not_false}
-use Rattle.rules.specs.Laws.Costs.{bio_in_range_lem, costing_costs_exactly_when}
-use Rattle.rules.specs.Laws.Questions.{ruled_by}
+use Rattle.rules.proofs.Laws.Bools.{true_not_false}
+use Rattle.rules.proofs.Laws.Costs.{bio_in_range_lem, costing_costs_exactly_when}
+use Rattle.rules.proofs.Laws.Questions.{ruled_by}
 use Rattle.rules.specs.declared.units.Abs.{Abs}
 use Rattle.rules.specs.declared.cost.Bio.{Bio}
 use Rattle.rules.specs.declared.budget.Own.{Own}

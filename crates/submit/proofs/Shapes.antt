@@ -16,15 +16,15 @@ use Rattle.rules.specs.Refusals.{first_of, cost_checks, room_checks, submit_chec
 use Rattle.rules.specs.Entries.{costing, submitted_by, submitted}
 use Rattle.rules.specs.Question.{unless_refused, when_active}
 use Rattle.rules.specs.Invariant.{Sound, SoundModel, SoundTree, Within}
-use Rattle.rules.specs.Laws.Costs.{priced_sound}
-use Rattle.rules.specs.Laws.Trees.{leaf_last, last_most}
-use Rattle.rules.specs.Laws.Resharing.{Reweighed, active_with, activated_is, entering_keeps, entering_reweighs, entered_is_active}
-use Rattle.rules.specs.Laws.Submits.{cost_in, reweighed_debt, reweighed_queue, reweighed_cost}
-use Rattle.rules.specs.Laws.Bools.{never, true_not_false}
-use Rattle.rules.specs.Laws.Verdicts.{first_refused}
-use Rattle.rules.specs.Laws.Answers.{answer_by_count, issued_fits, no_refusal}
-use Rattle.rules.specs.Laws.Decisions.{entered_active}
-use Rattle.rules.specs.Laws.Questions.{uncosted_refuses, idle_has_room, costed_in_range, costed_the_cost, costed_within, room_is_left}
+use Rattle.rules.proofs.Laws.Costs.{priced_sound}
+use Rattle.rules.proofs.Laws.Trees.{leaf_last, last_most}
+use Rattle.rules.proofs.Laws.Resharing.{Reweighed, active_with, activated_is, entering_keeps, entering_reweighs, entered_is_active}
+use Rattle.rules.proofs.Laws.Submits.{cost_in, reweighed_debt, reweighed_queue, reweighed_cost}
+use Rattle.rules.proofs.Laws.Bools.{never, true_not_false}
+use Rattle.rules.proofs.Laws.Verdicts.{first_refused}
+use Rattle.rules.proofs.Laws.Answers.{answer_by_count, issued_fits, no_refusal}
+use Rattle.rules.proofs.Laws.Decisions.{entered_active}
+use Rattle.rules.proofs.Laws.Questions.{uncosted_refuses, idle_has_room, costed_in_range, costed_the_cost, costed_within, room_is_left}
 use Rattle.rules.specs.declared.units.Abs.{Abs}
 use Rattle.rules.specs.declared.cost.Bio.{Bio}
 use Rattle.rules.specs.declared.tree.Tree.{Tree}

@@ -14,10 +14,10 @@ use Rattle.rules.specs.Tick.{waiting_all}
 use Rattle.rules.specs.Refusals.{Check, ◌⇒◌, first_of, tick_checks}
 use Rattle.rules.specs.Entries.{ticked, ticked_by, lent_of, lent_by}
 use Rattle.rules.specs.Invariant.{Sound}
-use Rattle.rules.specs.Laws.Sums.{sum_step, sum_part}
-use Rattle.rules.specs.Laws.Tables.{get_D_inside}
-use Rattle.rules.specs.Laws.Verdicts.{first_passed, first_refused}
-use Rattle.rules.specs.Laws.States.{waiting_small}
+use Rattle.rules.proofs.Laws.Sums.{sum_step, sum_part}
+use Rattle.rules.proofs.Laws.Tables.{get_D_inside}
+use Rattle.rules.proofs.Laws.Verdicts.{first_passed, first_refused}
+use Rattle.rules.proofs.Laws.States.{waiting_small}
 use Rattle.rules.specs.declared.budget.Controller.{Controller}
 use Rattle.rules.specs.declared.budget.Ticked.{Ticked}
 use Rattle.rules.specs.declared.refusals.Refusal.{Refusal}

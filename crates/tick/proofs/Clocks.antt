@@ -8,7 +8,7 @@ use borrow.Author.Tests.{lt-ltb, le-ltb}
 use Rattle.rules.specs.Numbers.{elapsed_most, vtime_most, since_most}
 use Rattle.rules.specs.Tick.{growth}
 use Rattle.rules.specs.Refusals.{first_of}
-use Rattle.rules.specs.Laws.Clocks.{growth_small}
+use Rattle.rules.proofs.Laws.Clocks.{growth_small}
 use Rattle.rules.specs.declared.units.Virt.{Virt}
 use Rattle.rules.specs.declared.budget.Clock.{Clock}
 use Rattle.rules.specs.declared.refusals.Refusal.TheVariants.{TimeBack, TimeFar, ClockFull, PlanDue}

@@ -15,13 +15,13 @@ use Rattle.rules.specs.Budget.{row_at, queue_at, share_at, empty_row, empty_queu
 use Rattle.rules.specs.Tick.{Turn, no_release, and_capped, and_repaid, growth, advanced, release_in, turn, turn_of, releases, lent_after, tick, waiting_all}
 use Rattle.rules.specs.Entries.{ticked_by, lent_by}
 use Rattle.rules.specs.Invariant.{Sound, TickPasses}
-use Rattle.rules.specs.Laws.Buffers.{stands_none, stands_rest, stands_more}
-use Rattle.rules.specs.Laws.Sums.{sum_step, sum_le, sum_part, length_join, join_step}
-use Rattle.rules.specs.Laws.Tables.{table_length, get_D_inside}
-use Rattle.rules.specs.Laws.Sweeps.{swept, place_here, place_put, place_skip, places_done}
+use Rattle.rules.proofs.Laws.Buffers.{stands_none, stands_rest, stands_more}
+use Rattle.rules.proofs.Laws.Sums.{sum_step, sum_le, sum_part, length_join, join_step}
+use Rattle.rules.proofs.Laws.Tables.{table_length, get_D_inside}
+use Rattle.rules.proofs.Laws.Sweeps.{swept, place_here, place_put, place_skip, places_done}
 use Rattle.rules.specs.Buffers.{Written, Stands, rest_of, put_back}
-use Rattle.rules.specs.Laws.Ticks.{active_turn, idle_turn, leaf_tick}
-use Rattle.rules.specs.Laws.Trees.{no_root_within}
+use Rattle.rules.proofs.Laws.Ticks.{active_turn, idle_turn, leaf_tick}
+use Rattle.rules.proofs.Laws.Trees.{no_root_within}
 use Rattle.rules.specs.declared.units.Virt.{Virt}
 use Rattle.rules.specs.declared.budget.Row.{Row}
 use Rattle.rules.specs.declared.budget.Queue.{Queue}

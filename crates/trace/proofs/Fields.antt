@@ -9,7 +9,7 @@ use native.Mathlib.Omega.{arith}
 use lib.ListN.{length, get_or, drop}
 use lib.Seq.{drop-drop}
 use Rattle.rules.specs.Trace.{number_of, is_kind, layout, fields_from, rates_of, bio_of}
-use Rattle.rules.specs.Laws.Trace.{number_more, kinds}
+use Rattle.rules.proofs.Laws.Trace.{number_more, kinds}
 use Rattle.rules.specs.declared.cost.Rates.{Rates}
 use Rattle.rules.specs.declared.cost.Bio.{Bio}
 use Rattle.trace.specs.Fields.{number_at, fields_at}

@@ -9,7 +9,7 @@ use native.Mathlib.Omega.{arith}
 use lib.ListN.{length, take, drop, set, take-append-drop, length-append, length-take, length-drop}
 use lib.Seq.{drop-append-add, drop-drop, set_split, take_at}
 use Rattle.rules.specs.Trace.{bytes_of, total, body_of}
-use Rattle.rules.specs.Laws.Trace.{bytes_snoc, length_bytes}
+use Rattle.rules.proofs.Laws.Trace.{bytes_snoc, length_bytes}
 use Rattle.trace.specs.Laid.{laid}
 
 pub laid_none : (at : ℕ) (l : List ℕ) → laid [] at l ≡ l

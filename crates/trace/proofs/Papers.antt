@@ -4,7 +4,7 @@ use mathlib.Core.Path.{◌≡◌}
 use mathlib.Core.List.{List}
 use Prim.Native.Nat.{ℕ}
 use Rattle.rules.specs.Trace.{read_at}
-use Rattle.rules.specs.Laws.Refusals.{read_on_paper}
+use Rattle.rules.proofs.Laws.Refusals.{read_on_paper}
 use Rattle.rules.specs.declared.trace.Read.{Read}
 use Rattle.trace.specs.Answers.{ReadOnPaper}
 

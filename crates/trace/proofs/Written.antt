@@ -16,7 +16,7 @@ use borrow.Author.Tests.{lt-ltb, le-ltb}
 use Rattle.rules.specs.contracts.trace.Record.{the_type}
 use Rattle.rules.proofs.trace.Record.TheLaws.{the_laws}
 use Rattle.rules.specs.Trace.{bytes_of, is_kind, layout, total, kind_of, fields_of, body_of, record_bytes, Fits, writing, written_to}
-use Rattle.rules.specs.Laws.Trace.{kinds}
+use Rattle.rules.proofs.Laws.Trace.{kinds}
 use Rattle.rules.specs.declared.refusals.Refusal.TheVariants.{ShortBuffer}
 use Rattle.rules.specs.declared.trace.Record.{Record}
 use Rattle.rules.specs.declared.trace.Record.TheVariants.{Node, Model, Start, Bio, Tick, Plan, Vrate, Weight}

@@ -14,9 +14,9 @@ use Rattle.rules.specs.Numbers.{nodes_most}
 use Rattle.rules.specs.Words.{has, set_of}
 use Rattle.rules.specs.Tree.{parent, last, is_leaf, leaves_of}
 use Rattle.rules.specs.declared.tree.Tree.{Tree}
-use Rattle.rules.specs.Laws.Bools.{is_false, same_test, and_left, and_right, and_both, or_left, or_right, or_cases}
-use Rattle.rules.specs.Laws.Sets.{has_none, has_set_of, set_small, set_cong, set_ext}
-use Rattle.rules.specs.Laws.Trees.{leaf_pos, leaf_last, leaf_childless, childless_leaf, has_leaves}
+use Rattle.rules.proofs.Laws.Bools.{is_false, same_test, and_left, and_right, and_both, or_left, or_right, or_cases}
+use Rattle.rules.proofs.Laws.Sets.{has_none, has_set_of, set_small, set_cong, set_ext}
+use Rattle.rules.proofs.Laws.Trees.{leaf_pos, leaf_last, leaf_childless, childless_leaf, has_leaves}
 use Rattle.tree.specs.View.{tree_of, Climbs}
 use Rattle.tree.proofs.View.{parent_at, last_at}
 

@@ -16,10 +16,10 @@ use Rattle.rules.specs.Refusals.{is_fault}
 use Rattle.rules.specs.declared.tree.Tree.{Tree}
 use Rattle.rules.specs.declared.tree.Fault.{Fault}
 use Rattle.rules.specs.declared.tree.Fault.TheVariants.{Sound, Count, Parent, Weight, Level}
-use Rattle.rules.specs.Laws.Bools.{and_not_right}
-use Rattle.rules.specs.Laws.Trees.{nodes_sound}
-use Rattle.rules.specs.Laws.TreeVerdicts.{sound_when}
-use Rattle.rules.specs.Laws.Faults.{earlier_kept}
+use Rattle.rules.proofs.Laws.Bools.{and_not_right}
+use Rattle.rules.proofs.Laws.Trees.{nodes_sound}
+use Rattle.rules.proofs.Laws.TreeVerdicts.{sound_when}
+use Rattle.rules.proofs.Laws.Faults.{earlier_kept}
 use Rattle.tree.specs.View.{tree_of, Climbs}
 use Rattle.tree.proofs.View.{parent_at, weight_at, last_at}
 

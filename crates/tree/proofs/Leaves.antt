@@ -10,10 +10,10 @@ use Rattle.rules.specs.Words.{has, set_of}
 use Rattle.rules.specs.Tree.{last, is_leaf, leaves_of, is_active, share_of, is_thin}
 use Rattle.rules.specs.Invariant.{SoundTree, Within}
 use Rattle.rules.specs.declared.tree.Tree.{Tree}
-use Rattle.rules.specs.Laws.Bools.{true_not_false, and_both}
-use Rattle.rules.specs.Laws.Sums.{any_in, none_any}
-use Rattle.rules.specs.Laws.Sets.{has_none, has_set_of, set_of_fits, has_node, remove_others}
-use Rattle.rules.specs.Laws.Trees.{leaf_pos, leaf_last, leaves_within, leaves_are, active_leaf}
+use Rattle.rules.proofs.Laws.Bools.{true_not_false, and_both}
+use Rattle.rules.proofs.Laws.Sums.{any_in, none_any}
+use Rattle.rules.proofs.Laws.Sets.{has_none, has_set_of, set_of_fits, has_node, remove_others}
+use Rattle.rules.proofs.Laws.Trees.{leaf_pos, leaf_last, leaves_within, leaves_are, active_leaf}
 use Rattle.sets.specs.Lowest.{Lowest}
 use Rattle.tree.specs.View.{leaves_in, Lit}
 use Rattle.tree.proofs.Lit.{leaves_back, lit_here}

@@ -15,10 +15,10 @@ use Rattle.rules.specs.Units.{floor_of}
 use Rattle.rules.specs.Tree.{parent, weight, last, is_leaf, is_active, child_sum}
 use Rattle.rules.specs.Invariant.{SoundTree, Within}
 use Rattle.rules.specs.declared.tree.Tree.{Tree}
-use Rattle.rules.specs.Laws.Bools.{same_test, and_left, and_right, and_both}
-use Rattle.rules.specs.Laws.Sums.{sum_step}
-use Rattle.rules.specs.Laws.Sets.{has_set_of, set_of_fits, has_node, set_cong, set_back}
-use Rattle.rules.specs.Laws.Trees.{leaf_active, active_last, active_up, child_in, share_root, share_step, share_le}
+use Rattle.rules.proofs.Laws.Bools.{same_test, and_left, and_right, and_both}
+use Rattle.rules.proofs.Laws.Sums.{sum_step}
+use Rattle.rules.proofs.Laws.Sets.{has_set_of, set_of_fits, has_node, set_cong, set_back}
+use Rattle.rules.proofs.Laws.Trees.{leaf_active, active_last, active_up, child_in, share_root, share_step, share_le}
 use Rattle.tree.specs.View.{tree_of, leaves_in, Lit, child_sum_in, share_among}
 use Rattle.tree.proofs.View.{parent_at, weight_at, last_at}
 

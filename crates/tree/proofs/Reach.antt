@@ -13,10 +13,10 @@ use Rattle.rules.specs.Numbers.{nodes_most}
 use Rattle.rules.specs.Words.{any_to, has, set_of}
 use Rattle.rules.specs.Tree.{parent, last, is_active}
 use Rattle.rules.specs.declared.tree.Tree.{Tree}
-use Rattle.rules.specs.Laws.Bools.{same_test, and_left, and_right, and_both, and_not_right, or_left, or_right, or_cases}
-use Rattle.rules.specs.Laws.Sums.{any_in, any_out, any_cong}
-use Rattle.rules.specs.Laws.Sets.{has_set_of, set_of_fits, set_cong, set_back}
-use Rattle.rules.specs.Laws.Trees.{active_step, last_most}
+use Rattle.rules.proofs.Laws.Bools.{same_test, and_left, and_right, and_both, and_not_right, or_left, or_right, or_cases}
+use Rattle.rules.proofs.Laws.Sums.{any_in, any_out, any_cong}
+use Rattle.rules.proofs.Laws.Sets.{has_set_of, set_of_fits, set_cong, set_back}
+use Rattle.rules.proofs.Laws.Trees.{active_step, last_most}
 use Rattle.rules.specs.Invariant.{SoundTree, Within}
 
 -- an active child of n, with a number from m on

@@ -8,7 +8,7 @@ use native.Mathlib.Omega.{arith}
 use lib.ListN.{get_or}
 use Rattle.rules.specs.Tree.{parent, weight, last, level}
 use Rattle.rules.specs.Invariant.{SoundTree}
-use Rattle.rules.specs.Laws.Trees.{level_step}
+use Rattle.rules.proofs.Laws.Trees.{level_step}
 use Rattle.tree.specs.View.{tree_of, Climbs}
 
 module _ (count : ℕ) (ps ws : List ℕ) where

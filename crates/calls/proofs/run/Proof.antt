@@ -1,7 +1,7 @@
 -- `calls::run` meets its contract: each turn of the loop is one call of the run, and its lines stand behind those before.
 -- Assumes nothing.
 use borrow.Author.Rules.{rules}
-use Rattle.rules.specs.Laws.Buffers.{stands_left, stands_kept}
+use Rattle.rules.proofs.Laws.Buffers.{stands_left, stands_kept}
 use Rattle.calls.proofs.Running.{begun, ends, no_call}
 use Rattle.calls.proofs.run.Statement.{statement}
 use Rattle.calls.proofs.run.Tie as tie

@@ -6,8 +6,8 @@ use Rattle.std.proofs.Common.{sym, ap, ◌∙◌, append_assoc, arith, length-ap
 use Rattle.std.proofs.lemmas.List.{take-append-le, drop-append-le}
 use Rattle.rules.specs.Trace.{read_at}
 use Rattle.rules.specs.Chunks.{is_cut}
-use Rattle.rules.specs.Laws.Bools.{never, same_test, and_left, and_right, and_both}
-use Rattle.rules.specs.Laws.Pieces.{same_with_more}
+use Rattle.rules.proofs.Laws.Bools.{never, same_test, and_left, and_right, and_both}
+use Rattle.rules.proofs.Laws.Pieces.{same_with_more}
 use Rattle.rules.specs.declared.trace.Record.{Record}
 use Rattle.rules.specs.declared.trace.Read.TheVariants.{Found}
 use Rattle.comparison.specs.Compare.{same_bytes, between}

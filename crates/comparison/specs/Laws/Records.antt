@@ -8,9 +8,9 @@ use mathlib.Core.List.{List, [], ◌∷◌, ◌++◌}
 use Prim.Native.Nat.{ℕ, zero, suc, ◌+◌, ◌-◌, ◌<◌}
 use Rattle.std.proofs.Math.Seq.{drop-length}
 use Rattle.rules.specs.Trace.{read_at}
-use Rattle.rules.specs.Laws.Bools.{never, true_not_false, and_not_right}
+use Rattle.rules.proofs.Laws.Bools.{never, true_not_false, and_not_right}
 use Rattle.rules.specs.declared.refusals.Refusal.{Refusal}
-use Rattle.rules.specs.Laws.Trace.{beyond_is_cut}
+use Rattle.rules.proofs.Laws.Trace.{beyond_is_cut}
 use Rattle.rules.specs.declared.trace.Read.TheVariants.{Refused as Unread}
 use Rattle.comparison.specs.Compare.{extent_at, is_whole, past_of, records_end_from, records_end, error_by, error_in, same_bytes, between, is_pair, else_difference, passed, step_of, concluded, compared_from, compared, error_of, walked, at_start}
 use Rattle.comparison.specs.Laws.Steps.{WholeAt, Extending, each_extent, extent_of_lem, ended_extent, records_end_here, records_end_on, pair_step, first_ends_step, second_ends_step, both_end_step, walk_here, walk_on_lem, walk_on}

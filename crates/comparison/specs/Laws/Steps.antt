@@ -6,9 +6,9 @@ use Rattle.std.proofs.Common.{◌∙◌, arith, drop-cons}
 use Rattle.std.proofs.Math.Bool.{true, false, cond}
 use Prim.Native.Nat.{ℕ, zero, suc, ◌+◌, ◌-◌, ◌≤◌, ◌<◌}
 use Rattle.rules.specs.Trace.{is_kind, kind_of, layout, total, behind, read_at}
-use Rattle.rules.specs.Laws.Bools.{true_not_false, is_false}
-use Rattle.rules.specs.Laws.Trace.{Reading, each_answer, end_at_the_end, whole_is_found, short_is_cut, record_at, kind_of_record}
-use Rattle.rules.specs.Laws.Trace.Reading.{beyond, ended, unknown, cut, whole}
+use Rattle.rules.proofs.Laws.Bools.{true_not_false, is_false}
+use Rattle.rules.proofs.Laws.Trace.{Reading, each_answer, end_at_the_end, whole_is_found, short_is_cut, record_at, kind_of_record}
+use Rattle.rules.proofs.Laws.Trace.Reading.{beyond, ended, unknown, cut, whole}
 use Rattle.rules.specs.declared.refusals.Refusal.{Refusal}
 use Rattle.rules.specs.declared.refusals.Refusal.TheVariants.{CutShort}
 use Rattle.rules.specs.declared.trace.Read.{Read}

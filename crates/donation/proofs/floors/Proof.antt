@@ -7,7 +7,7 @@ use borrow.Author.Rules.{rules}
 use lib.ListN.{replicate}
 use Rattle.rules.specs.Words.{table}
 use Rattle.rules.specs.Plan.{share_given}
-use Rattle.rules.specs.Laws.Sweeps.{swept, place_put, places_done}
+use Rattle.rules.proofs.Laws.Sweeps.{swept, place_put, places_done}
 use Rattle.donation.proofs.Rest.{quotient_fits, share_floored}
 use Rattle.donation.proofs.floors.Statement.{statement}
 use Rattle.donation.proofs.floors.Tie as tie

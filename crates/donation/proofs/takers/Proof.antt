@@ -1,7 +1,7 @@
 -- `donation::takers` meets its contract: bit by bit, the active ones that are no donors.
 -- Assumes nothing.
 use Rattle.rules.specs.Plan.{is_taker}
-use Rattle.rules.specs.Laws.Sets.{less_bits}
+use Rattle.rules.proofs.Laws.Sets.{less_bits}
 use Rattle.donation.proofs.takers.Statement.{statement}
 use Rattle.donation.proofs.takers.Tie as tie
 

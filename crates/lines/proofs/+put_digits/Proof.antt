@@ -8,8 +8,8 @@ use lib.ListN.{length, set, length-append}
 use borrow.Author.Rules.{rules}
 use Rattle.rules.specs.Replay.{digits}
 use Rattle.rules.specs.Buffers.{Written, Stands}
-use Rattle.rules.specs.Laws.Buffers.{stands_in, stands_byte, stands_first}
-use Rattle.rules.specs.Laws.Lines.{digits_short, digits_long}
+use Rattle.rules.proofs.Laws.Buffers.{stands_in, stands_byte, stands_first}
+use Rattle.rules.proofs.Laws.Lines.{digits_short, digits_long}
 use borrow.Fn.Kinds.{In}
 use borrow.Fn.PlainCycle.{Measures, is, falls, and}
 use Rattle.lines.proofs.put_digits.Reads as reads

@@ -2,7 +2,7 @@
 -- Assumes nothing.
 use native.Mathlib.Omega.{arith}
 use borrow.Author.Rules.{rules}
-use Rattle.rules.specs.Laws.Lines.{id_line_most}
+use Rattle.rules.proofs.Laws.Lines.{id_line_most}
 use Rattle.lines.proofs.put_id.Statement.{statement}
 use Rattle.lines.proofs.put_id.Tie as tie
 

@@ -5,8 +5,8 @@ use native.Mathlib.Omega.{arith}
 use borrow.Author.Rules.{rules}
 use mathlib.Core.Bool.{true, false}
 use Rattle.rules.specs.Words.{has}
-use Rattle.rules.specs.Laws.Buffers.{stands_none}
-use Rattle.rules.specs.Laws.Lines.{share_line_most}
+use Rattle.rules.proofs.Laws.Buffers.{stands_none}
+use Rattle.rules.proofs.Laws.Lines.{share_line_most}
 use Rattle.lines.proofs.put_leaf.Statement.{statement}
 use Rattle.lines.proofs.put_leaf.Tie as tie
 

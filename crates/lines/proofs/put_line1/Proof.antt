@@ -2,7 +2,7 @@
 -- Assumes nothing.
 use native.Mathlib.Omega.{arith}
 use borrow.Author.Rules.{rules}
-use Rattle.rules.specs.Laws.Lines.{line_one, line_one_length}
+use Rattle.rules.proofs.Laws.Lines.{line_one, line_one_length}
 use Rattle.lines.proofs.put_line1.Statement.{statement}
 use Rattle.lines.proofs.put_line1.Tie as tie
 

@@ -7,8 +7,8 @@ use lib.ListN.{length, length-append}
 use borrow.Author.Rules.{rules}
 use Rattle.rules.specs.Replay.{digits, line}
 use Rattle.rules.specs.Buffers.{Stands, put_back}
-use Rattle.rules.specs.Laws.Buffers.{stands_left, stands_rest, stands_more}
-use Rattle.rules.specs.Laws.Lines.{line_two, line_two_length}
+use Rattle.rules.proofs.Laws.Buffers.{stands_left, stands_rest, stands_more}
+use Rattle.rules.proofs.Laws.Lines.{line_two, line_two_length}
 use Rattle.lines.proofs.put_line2.Statement.{statement}
 use Rattle.lines.proofs.put_line2.Tie as tie
 

@@ -3,7 +3,7 @@
 use borrow.Author.Rules.{rules}
 use Rattle.rules.specs.Replay.{digits}
 use Rattle.rules.specs.Buffers.{Stands}
-use Rattle.rules.specs.Laws.Buffers.{stands_byte}
+use Rattle.rules.proofs.Laws.Buffers.{stands_byte}
 use Rattle.lines.proofs.put_number.Statement.{statement}
 use Rattle.lines.proofs.put_number.Tie as tie
 

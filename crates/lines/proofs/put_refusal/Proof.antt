@@ -10,7 +10,7 @@ use types.Run.{OneOf, miss}
 use denote.Enum.Declared.{tag_of}
 use Rattle.rules.specs.Refusals.{number, named, fault_number, fault_node}
 use Rattle.rules.specs.Replay.{line, refusal_line}
-use Rattle.rules.specs.Laws.Lines.{OfTree, names_a_node_or_nothing, refusal_line_most}
+use Rattle.rules.proofs.Laws.Lines.{OfTree, names_a_node_or_nothing, refusal_line_most}
 use Rattle.rules.specs.declared.tree.Fault.{Fault}
 use Rattle.rules.specs.declared.refusals.Refusal.{Refusal}
 use Rattle.rules.specs.declared.refusals.Refusal.TheVariants.{BadTree}

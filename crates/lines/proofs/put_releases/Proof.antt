@@ -8,8 +8,8 @@ use lib.ListN.{length, take, get_or}
 use borrow.Author.Rules.{rules}
 use Rattle.rules.specs.Replay.{line, release_lines}
 use Rattle.rules.specs.Buffers.{Written, Stands, rest_of, put_back}
-use Rattle.rules.specs.Laws.Buffers.{stands_none, stands_kept, stands_left, stands_rest, stands_more}
-use Rattle.rules.specs.Laws.Lines.{releases_next}
+use Rattle.rules.proofs.Laws.Buffers.{stands_none, stands_kept, stands_left, stands_rest, stands_more}
+use Rattle.rules.proofs.Laws.Lines.{releases_next}
 use Rattle.lines.proofs.put_releases.Statement.{statement}
 use Rattle.lines.proofs.put_releases.Tie as tie
 

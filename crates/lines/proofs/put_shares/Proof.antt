@@ -7,8 +7,8 @@ use native.Mathlib.Omega.{arith}
 use lib.ListN.{length, get_or}
 use borrow.Author.Rules.{rules}
 use Rattle.rules.specs.Buffers.{Written, Stands, rest_of, put_back}
-use Rattle.rules.specs.Laws.Buffers.{stands_none, stands_kept, stands_left, stands_rest, stands_more}
-use Rattle.rules.specs.Laws.Lines.{shares_none, shares_next}
+use Rattle.rules.proofs.Laws.Buffers.{stands_none, stands_kept, stands_left, stands_rest, stands_more}
+use Rattle.rules.proofs.Laws.Lines.{shares_none, shares_next}
 use Rattle.lines.proofs.put_shares.Statement.{statement}
 use Rattle.lines.proofs.put_shares.Tie as tie
 use Rattle.rules.specs.Replay.{leaf_line, share_lines_to, share_lines_of}

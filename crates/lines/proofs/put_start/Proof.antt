@@ -7,7 +7,7 @@ use lib.ListN.{set, length-set, length-append}
 use borrow.Author.Rules.{rules}
 use Rattle.rules.specs.Replay.{digits}
 use Rattle.rules.specs.Buffers.{Stands, put_back}
-use Rattle.rules.specs.Laws.Buffers.{stands_kept, stands_rest, stands_more, stands_byte, stands_first}
+use Rattle.rules.proofs.Laws.Buffers.{stands_kept, stands_rest, stands_more, stands_byte, stands_first}
 use Rattle.lines.proofs.put_start.Statement.{statement}
 use Rattle.lines.proofs.put_start.Tie as tie
 

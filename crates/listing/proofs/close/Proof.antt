@@ -7,7 +7,7 @@ use Prim.Native.Nat.{ℕ, ◌+◌, ◌≤◌}
 use native.Mathlib.Omega.{arith}
 use lib.ListN.{length}
 use Rattle.rules.specs.Buffers.{Written, Stands, rest_of, put_back}
-use Rattle.rules.specs.Laws.Buffers.{stands_more}
+use Rattle.rules.proofs.Laws.Buffers.{stands_more}
 use Rattle.comparison.specs.Compare.{ends_by, likeness_by, longer_by}
 use Rattle.comparison.specs.declared.Ends.{Ends}
 use Rattle.comparison.specs.declared.Likeness.{Likeness}

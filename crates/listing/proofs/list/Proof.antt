@@ -5,7 +5,7 @@ use native.Mathlib.Omega.{arith}
 use lib.ListN.{length}
 use borrow.Author.Rules.{rules}
 use borrow.Author.Tests.{not-true, not-false}
-use Rattle.rules.specs.Laws.Buffers.{stands_left, stands_kept}
+use Rattle.rules.proofs.Laws.Buffers.{stands_left, stands_kept}
 use Rattle.listing.proofs.Going.{Going, begun, no_pair, no_room, room_left, counts, nearer, within, goes}
 use Rattle.listing.proofs.list.Statement.{statement}
 use Rattle.listing.proofs.list.Tie as tie

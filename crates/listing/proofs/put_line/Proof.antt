@@ -4,7 +4,7 @@ use mathlib.Core.Path.{◌≡◌}
 use mathlib.Core.List.{List}
 use Prim.Native.Nat.{ℕ, ◌+◌, ◌≤◌}
 use Rattle.rules.specs.Buffers.{Written}
-use Rattle.rules.specs.Laws.Trace.{record_at}
+use Rattle.rules.proofs.Laws.Trace.{record_at}
 use Rattle.rules.specs.declared.trace.Record.{Record}
 use Rattle.text.specs.Lines.{differs_line, differs_room}
 use Rattle.listing.specs.Listing.{differs_at}

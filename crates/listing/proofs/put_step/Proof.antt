@@ -7,7 +7,7 @@ use native.Mathlib.Omega.{arith}
 use Rattle.rules.specs.Buffers.{Written}
 use Rattle.comparison.specs.Compare.{step_at}
 use Rattle.rules.specs.Trace.{behind}
-use Rattle.rules.specs.Laws.Trace.{found_only_whole}
+use Rattle.rules.proofs.Laws.Trace.{found_only_whole}
 use Rattle.comparison.specs.Laws.Steps.{WholeAt, Stepping, each_step}
 use Rattle.comparison.specs.Laws.Steps.Stepping.{differ}
 use Rattle.text.specs.Lines.{differs_room}

@@ -7,7 +7,7 @@ use lib.ListN.{length, replicate}
 use borrow.Author.Rules.{rules}
 use Rattle.rules.specs.Words.{table, set_to, set_of}
 use Rattle.rules.specs.Plan.{is_quiet}
-use Rattle.rules.specs.Laws.Sweeps.{swept, place_put, places_done}
+use Rattle.rules.proofs.Laws.Sweeps.{swept, place_put, places_done}
 use Rattle.rules.specs.declared.units.Abs.{Abs}
 use Rattle.rules.specs.declared.budget.Row.{Row}
 use Rattle.plan.specs.Sharing.{Shown}

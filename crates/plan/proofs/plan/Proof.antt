@@ -3,7 +3,7 @@
 use Prim.Native.Nat.{◌-◌, ◌≤◌, ◌<◌}
 use borrow.Author.Rules.{rules}
 use borrow.Author.Tests.{not-true, not-false}
-use Rattle.rules.specs.Laws.Refusals.{plan_on_paper}
+use Rattle.rules.proofs.Laws.Refusals.{plan_on_paper}
 use Rattle.plan.specs.Sharing.{Shown}
 use Rattle.plan.proofs.Steps.{CountedTo, count_put, shown, passed, refused, put_in, accepted}
 use Rattle.plan.proofs.plan.Statement.{statement}

@@ -9,7 +9,7 @@ use lib.ListN.{get_or, replicate}
 use Rattle.rules.specs.Words.{table}
 use Rattle.rules.specs.Units.{abs}
 use Rattle.rules.specs.Plan.{target_of}
-use Rattle.rules.specs.Laws.Sweeps.{swept, place_put, places_done}
+use Rattle.rules.proofs.Laws.Sweeps.{swept, place_put, places_done}
 use Rattle.rules.specs.declared.units.Virt.{Virt}
 use Rattle.plan.proofs.Turns.{target_fits}
 use Rattle.plan.proofs.targets_in.Statement.{statement}

@@ -9,7 +9,7 @@ use borrow.Author.Rules.{rules}
 use lib.ListN.{get_or}
 use Rattle.rules.specs.Words.{sum_to}
 use Rattle.rules.specs.Units.{abs}
-use Rattle.rules.specs.Laws.Sums.{sum_part}
+use Rattle.rules.proofs.Laws.Sums.{sum_part}
 use Rattle.plan.proofs.usage_all.Statement.{statement}
 use Rattle.plan.proofs.usage_all.Tie as tie
 

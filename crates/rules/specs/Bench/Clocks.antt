@@ -1,61 +1,61 @@
 -- Numbers of their own for the clock: what is left over, when it is paid out, and who leaves it alone.
 -- Assumes nothing.
-use Rattle.std.specs.Prelude.{◌≡◌, refl, true, List, [], ◌∷◌, ◌++◌, ℕ, zero, suc, ◌-◌, ◌^◌}
+use Rattle.std.specs.Prelude.{List, [], ◌∷◌, ◌++◌, ℕ, zero, suc, ◌-◌, ◌^◌}
 use Rattle.rules.specs.Units.{abs, virt}
 use Rattle.rules.specs.Budget.{fresh, row_at, queue_at, with_clock, with_remainder, put_leaf, with_budget, with_debt}
 use Rattle.rules.specs.Tick.{advanced}
 use Rattle.rules.specs.Refusals.{first_of, verdict_paper, count_paper, tick_checks, plan_checks}
 use Rattle.rules.specs.Entries.{submitted, ticked, lent_of, planned, vrated, weighted}
-use Rattle.rules.specs.Ledger.{Call, cost_waiting, cost_of_first, cost_on, released_at, repaid_at, forgiven_at, accepted, issued, released, repaid, forgiven, generated, exact}
+use Rattle.rules.specs.Ledger.{Call, generated, exact}
 use Rattle.rules.specs.declared.budget.Clock.{Clock}
 use Rattle.rules.specs.declared.budget.Controller.{Controller}
 use Rattle.rules.specs.declared.replay.Setting.TheVariants.{Vrate}
-use Rattle.rules.specs.Bench.{computed, M, bio, tree5, clock_at}
-use Rattle.rules.specs.Bench.Edges.{Seen, see, all_same, leaf_numbers, heads, saved6, owes6}
+use Rattle.rules.specs.Bench.{M, bio, tree5, clock_at}
+use Rattle.rules.specs.Bench.Edges.{Seen, see, leaf_numbers, heads, saved6, owes6}
 
 -- a clock at time 0 with this vrate and this remainder
-abbrev holds : ℕ → ℕ → Clock
+abbrev pub holds : ℕ → ℕ → Clock
 holds vrate remainder = with_remainder remainder (clock_at 0 0 0 vrate)
 
 -- virtual time, remainder and E
-abbrev times : Clock → List ℕ
+abbrev pub times : Clock → List ℕ
 times k = k.vtime.0 ∷ k.remainder ∷ k.since.0 ∷ []
 
 -- after a tick at each of these times
-abbrev through : List ℕ → Clock → Clock
+abbrev pub through : List ℕ → Clock → Clock
 through [] k = k
 through (time ∷ more) k = through more (advanced time k)
 
 -- after a tick at each of the next nanoseconds
-abbrev poll : ℕ → Clock → Clock
+abbrev pub poll : ℕ → Clock → Clock
 poll zero k = k
 poll (suc more) k = poll more (advanced (suc k.time) k)
 
 -- nobody is active; at vrate 50, with this virtual time, E and remainder
-abbrev worn : ℕ → ℕ → ℕ → Controller
+abbrev pub worn : ℕ → ℕ → ℕ → Controller
 worn vtime since remainder = with_clock (with_remainder remainder (clock_at 0 vtime since 50)) (fresh tree5 M 0)
 
 -- which refusal a tick at time 1 is due
-abbrev due : Controller → ℕ
+abbrev pub due : Controller → ℕ
 due c = (verdict_paper (first_of (tick_checks 1 0 c))).number
 
 -- how a tick leaves the clock of `saved6`, which is at time 1000 with 37 left over, at vrate 99
-abbrev left : ℕ → List ℕ
+abbrev pub left : ℕ → List ℕ
 left time = times (ticked time [] (vrated 99 saved6).state).state.clock
 
 -- leaf 1 waits for one that costs 24,588 at its share, and is one short of it; at this vrate
-abbrev short : ℕ → Controller
+abbrev pub short : ℕ → Controller
 short v = (vrated v (put_leaf 1 (with_debt (abs 0) (with_budget (virt 24587) (row_at owes6 1))) (queue_at owes6 1) owes6)).state
 
 -- leaf 1 owes, and has saved 1, which repays nothing at its share
-abbrev indebted : ℕ → Controller
+abbrev pub indebted : ℕ → Controller
 indebted v = (vrated v (put_leaf 1 (with_budget (virt 1) (row_at owes6 1)) (queue_at owes6 1) owes6)).state
 
 -- after a tick of 1 in one place: how many go, which, and the books of leaf 1
-abbrev goes : Controller → List ℕ
+abbrev pub goes : Controller → List ℕ
 goes c = (count_paper (ticked 1001 (9 ∷ []) c).answer).values ++ lent_of 1001 (9 ∷ []) c ++ leaf_numbers (ticked 1001 (9 ∷ []) c).state 1
 
-pub clocks : List Seen
+unfoldable pub clocks : List Seen
 clocks =
     -- two ticks of 7 at vrate 50 are one of 14
     see (times (through (7 ∷ []) (holds 50 0)) ++ times (through (7 ∷ 14 ∷ []) (holds 50 0))) (3 ∷ 50 ∷ 3 ∷ 7 ∷ 0 ∷ 7 ∷ [])
@@ -100,7 +100,3 @@ clocks =
     ∷ see (heads (Call.tick 1001 (9 ∷ [])) (short 63) 1) (0 ∷ 0 ∷ 20008 ∷ 0 ∷ 0 ∷ 1 ∷ [])
     ∷ see (heads (Call.tick 1001 (9 ∷ [])) (indebted 63) 1) (0 ∷ 0 ∷ 0 ∷ 1 ∷ 0 ∷ 1 ∷ [])
     ∷ []
-
-pub clocks_hold : all_same clocks ≡ true
-unfolding computed clocks saved6 owes6 accepted issued released repaid forgiven generated exact cost_on released_at repaid_at forgiven_at cost_of_first cost_waiting
-clocks_hold = refl

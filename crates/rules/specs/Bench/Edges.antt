@@ -2,7 +2,7 @@
 -- past it, whole books after each call, prices of devices, what the ledger makes of the calls, the replay by its parts, and a
 -- trace with lines of every kind.
 -- Assumes nothing.
-use Rattle.std.specs.Prelude.{◌≡◌, refl, Bool, true, false, cond, ◌&&◌, List, [], ◌∷◌, ◌++◌, ℕ, ◌+◌, ◌-◌, ◌*◌, ◌^◌, eqb, length, get_or, replicate, take}
+use Rattle.std.specs.Prelude.{Bool, true, false, cond, ◌&&◌, List, [], ◌∷◌, ◌++◌, ℕ, ◌+◌, ◌-◌, ◌*◌, ◌^◌, eqb, length, get_or, replicate, take}
 use Rattle.rules.specs.Words.{table_from, has, no_node}
 use Rattle.rules.specs.Units.{abs, virt}
 use Rattle.rules.specs.Cost.{bps_in_range, iops_in_range, bytes_in_range, sector_in_range, flags_in_range, is_near, priced}
@@ -13,8 +13,8 @@ use Rattle.rules.specs.Plan.{usage_all, is_quiet, target_of, is_donor, sum_over,
 use Rattle.rules.specs.Refusals.{Check, first_of, is_fault, verdict_number, read_number, write_number, model_values, cost_checks, room_checks, tick_checks, plan_checks}
 use Rattle.rules.specs.Entries.{costing, started, submitted, ticked, lent_of, planned, vrated, slowest}
 use Rattle.rules.specs.Trace.{layouts, record_bytes, writing, read_at}
-use Rattle.rules.specs.Replay.{digits, share_lines, in_phase, beginning, grown, Step, stepped, next_place, tick_call, replay, within, root_tree}
-use Rattle.rules.specs.Ledger.{Call, cost_waiting, cost_of_first, waiting, owed, cost_on, released_at, repaid_at, forgiven_at, accepted, issued, released, repaid, forgiven, generated, charged, saved}
+use Rattle.rules.specs.Replay.{digits, share_lines, in_phase, beginning, grown, Step, stepped, next_place, tick_call, within, root_tree}
+use Rattle.rules.specs.Ledger.{Call, waiting, owed, accepted, issued, released, repaid, forgiven, generated, charged, saved}
 use Rattle.rules.specs.declared.cost.Price.{Price}
 use Rattle.rules.specs.declared.cost.Model.{Model}
 use Rattle.rules.specs.declared.units.Abs.{Abs}
@@ -33,13 +33,13 @@ use Rattle.rules.specs.declared.replay.Phase.{Phase}
 use Rattle.rules.specs.declared.replay.Phase.TheVariants.{Setup, Priced, Running, Stopped}
 use Rattle.rules.specs.declared.replay.Replay.{Replay}
 use Rattle.rules.specs.Bench.Run.{run_tree}
-use Rattle.rules.specs.Bench.{computed, bytes_of_all, B, rates_M, M, bio, at_zero, cost_number, tree, tree5, tree6, tree7, clock_at, running, saved as saved_row, used, state9, letter, plan10, all_right, Case}
+use Rattle.rules.specs.Bench.{bytes_of_all, B, rates_M, M, bio, at_zero, cost_number, tree, tree5, tree6, tree7, clock_at, running, saved as saved_row, used, state9, letter, plan10, Case}
 
 -- ---- the edges
-abbrev is : Bool → Case
+abbrev pub is : Bool → Case
 is t = B 0 (cond t 1 0) 1
 
-abbrev is_not : Bool → Case
+abbrev pub is_not : Bool → Case
 is_not t = B 0 (cond t 1 0) 0
 
 abbrev pub gives : ℕ → List Check → Case
@@ -54,57 +54,57 @@ abbrev pub star : ℕ → Tree
 star n = tree (n + 1) (replicate n 0) (replicate n 1)
 
 -- a model in which a small read costs so much
-abbrev dear : ℕ → Model
+abbrev pub dear : ℕ → Model
 dear cost =
     let price : Price = record { page = abs 0; sequential = abs 0; random = abs cost } in
     record { read = price; write = price }
 
-abbrev owing : ℕ → Row
+abbrev pub owing : ℕ → Row
 owing d = record { budget = virt 0; debt = abs d; usage = abs 0; end = 0; begun = true; accepted = true }
 
-abbrev holding : ℕ → Queue
+abbrev pub holding : ℕ → Queue
 holding n = record { ids = empty_queue.ids; costs = empty_queue.costs; head = 0; len = n }
 
 -- a state at time 0 with so much virtual time and E; n bios of leaf 1 wait
-abbrev clocked : ℕ → ℕ → ℕ → Controller
+abbrev pub clocked : ℕ → ℕ → ℕ → Controller
 clocked vtime since n =
     with_books (fresh tree5 M 0).rows (empty_queue ∷ holding n ∷ []) (with_clock (clock_at 0 vtime since 100) (fresh tree5 M 0))
 
 -- B9's leaf with an older bio that waits
-abbrev behind9 : ℕ → Controller
+abbrev pub behind9 : ℕ → Controller
 behind9 budget = put_leaf 1 (saved_row budget) (holding 1) (state9 budget)
 
 -- one bio waits of the first leaf and two of the second
-abbrev both9 : Controller
+abbrev pub both9 : Controller
 both9 = put_leaf 2 (saved_row 0) (holding 2) (behind9 0)
 
 -- the same leaves while the first is a donor
-abbrev donating9 : Controller
+abbrev pub donating9 : Controller
 donating9 = reshared (leaves_of tree5) 2 (base_shares tree5 (leaves_of tree5)) (state9 0)
 
-abbrev rated : ℕ → Clock
+abbrev pub rated : ℕ → Clock
 rated vrate = clock_at 0 0 0 vrate
 
 -- after ticks at 100 and at 250
-later : Controller
+unfoldable pub later : Controller
 later = (ticked 250 [] (ticked 100 [] (clocked 0 0 0)).state).state
 
 -- one behind the last kind
-abbrev no_kind : ℕ
+abbrev pub no_kind : ℕ
 no_kind = length layouts + 1
 
 -- what a read at a place, and a tick's record in so many places, are refused
 abbrev pub read : List ℕ → ℕ → ℕ
 read trace at = read_number (read_at trace at)
 
-abbrev written : ℕ → ℕ
+abbrev pub written : ℕ → ℕ
 written places = write_number (writing (Tick 0) (replicate places 7))
 
 -- the last digit that the replay prints for what stands first in a trace: of R 16, R 17 or R 18
-abbrev first : List ℕ → ℕ
+abbrev pub first : List ℕ → ℕ
 first trace = get_or (stepped (read_at trace 0) beginning).bytes 3 0
 
-pub edges : List Case
+unfoldable pub edges : List Case
 edges =
     is (bps_in_range 4096) ∷ is_not (bps_in_range 4095) ∷ is (bps_in_range (2 ^ 40)) ∷ is_not (bps_in_range (2 ^ 40 + 1))
     ∷ is (iops_in_range 1) ∷ is_not (iops_in_range 0) ∷ is (iops_in_range (10 ^ 9)) ∷ is_not (iops_in_range (10 ^ 9 + 1))
@@ -154,10 +154,6 @@ edges =
     ∷ B 0 (first (no_kind ∷ [])) 54 ∷ B 0 (first (5 ∷ [])) 55 ∷ B 0 (first (record_bytes (Tick 0))) 56
     ∷ []
 
-pub edges_hold : all_right edges ≡ true
-unfolding computed edges plan10 later
-edges_hold = refl
-
 -- ---- the books of a state: what every call does to every leaf, compared whole
 -- what is seen, and what it should be
 pub record Seen : Type 0 where
@@ -177,14 +173,14 @@ abbrev pub all_same : List Seen → Bool
 all_same [] = true
 all_same (x ∷ xs) = same_numbers x.got x.want && all_same xs
 
-abbrev bit : Bool → ℕ
+abbrev pub bit : Bool → ℕ
 bit b = cond b 1 0
 
 -- budget, debt, usage, end, begun, accepted
-abbrev row_numbers : Row → List ℕ
+abbrev pub row_numbers : Row → List ℕ
 row_numbers r = r.budget.0 ∷ r.debt.0 ∷ r.usage.0 ∷ r.end ∷ bit r.begun ∷ bit r.accepted ∷ []
 
-abbrev cost_numbers : List Abs → List ℕ
+abbrev pub cost_numbers : List Abs → List ℕ
 cost_numbers [] = []
 cost_numbers (c ∷ cs) = c.0 ∷ cost_numbers cs
 
@@ -207,14 +203,14 @@ abbrev pub book_numbers : Controller → List ℕ
 book_numbers c = top_numbers c ++ leaf_numbers c 1 ++ leaf_numbers c 2 ++ leaf_numbers c 3
 
 -- three equal leaves, of which 1 takes, 2 gives and 3 is not active; a number of the books differs from those beside it
-abbrev ring : ℕ → ℕ → ℕ → Queue
+abbrev pub ring : ℕ → ℕ → ℕ → Queue
 ring from head len = record { ids = table_from (λ i. i) from 8; costs = table_from (λ i. abs (20000 + i)) from 8; head = head; len = len }
 
-abbrev row : ℕ → ℕ → ℕ → ℕ → Bool → Bool → Row
+abbrev pub row : ℕ → ℕ → ℕ → ℕ → Bool → Bool → Row
 row budget debt usage end begun accepted =
     record { budget = virt budget; debt = abs debt; usage = abs usage; end = end; begun = begun; accepted = accepted }
 
-abbrev state6 : Row → Queue → Controller
+abbrev pub state6 : Row → Queue → Controller
 state6 row₁ queue₁ =
     with_books
     (empty_row ∷ row₁ ∷ row 900000 0 13 16 false true ∷ row 0 0 19 24 true false ∷ [])
@@ -231,19 +227,19 @@ waits6 = state6 (row 30000 0 7 40 true false) (ring 1 7 3)
 unfoldable pub owes6 : Controller
 owes6 = state6 (row 0 50000 7 40 true false) (ring 1 7 1)
 
-both6 : Controller
+unfoldable pub both6 : Controller
 both6 = state6 (row 0 10000 7 40 true false) (record { ids = (ring 1 7 1).ids; costs = replicate 8 (abs 5000); head = 7; len = 1 })
 
 -- 7 is owed, of which a quiet plan forgives 3
-small6 : Controller
+unfoldable pub small6 : Controller
 small6 = state6 (row 400000 7 7 40 true false) (ring 1 7 0)
 
 -- leaf 2 has used 15,000 of 50,000, and leaf 3, which is not active, had a bio accepted or not
-abbrev more6 : Bool → Controller
+abbrev pub more6 : Bool → Controller
 more6 accepted = put_leaf 3 (row 0 0 19 24 true accepted) (ring 21 0 0) (put_leaf 2 (row 900000 0 15000 16 false true) (ring 11 3 0) small6)
 
 -- a tree of 63 leaves, of which the last alone is active, has used 5 and waits for one that costs nothing
-last63 : Controller
+unfoldable pub last63 : Controller
 last63 =
     with_books
     (replicate 63 empty_row ++ (used 5 ∷ []))
@@ -251,10 +247,10 @@ last63 =
     (with_sharing (2 ^ 63) no_node (replicate 63 0 ++ (2000 ∷ [])) (fresh (star 63) M 0))
 
 -- all that can wait does, of leaves that are not active
-crowded : Controller
+unfoldable pub crowded : Controller
 crowded = with_books (fresh (star 63) M 0).rows (empty_queue ∷ replicate 63 (holding 8)) (fresh (star 63) M 0)
 
-abbrev then : Bio → Controller → List ℕ
+abbrev pub then : Bio → Controller → List ℕ
 then b c = book_numbers (submitted b c).state
 
 -- leaves 2 and 3 of `state6`, and 1 in `saved6`, where a call leaves them alone
@@ -270,7 +266,7 @@ leaf3 = 0 ∷ 0 ∷ 0 ∷ 19 ∷ 24 ∷ 1 ∷ 0 ∷ 0 ∷ 0 ∷ []
 abbrev pub top : ℕ → ℕ → List ℕ
 top active donors = 1000 ∷ 70000 ∷ 50000 ∷ 200 ∷ 37 ∷ 14 ∷ active ∷ donors ∷ []
 
-pub books : List Seen
+unfoldable pub books : List Seen
 books =
     -- a fresh state
     see (top_numbers (started run_tree (rates_M 50000) 1000).state ++ leaf_numbers (started run_tree (rates_M 50000) 1000).state 1)
@@ -349,17 +345,13 @@ books =
     (0 ∷ 13422 ∷ 536864201 ∷ 536864200 ∷ replicate 60 0)
     ∷ []
 
-pub books_hold : all_same books ≡ true
-unfolding computed books saved6 waits6 owes6 both6 small6 last63
-books_hold = refl
-
 -- ---- outside vectors: four devices as Linux presets them, with the prices by document 01: a read's page, sequential base and
 -- random base, and a write's
-abbrev prices : ℕ → ℕ → ℕ → ℕ → ℕ → ℕ → List ℕ
+abbrev pub prices : ℕ → ℕ → ℕ → ℕ → ℕ → ℕ → List ℕ
 prices rbps rseqiops rrandiops wbps wseqiops wrandiops =
     model_values (priced (record { rbps = rbps; rseqiops = rseqiops; rrandiops = rrandiops; wbps = wbps; wseqiops = wseqiops; wrandiops = wrandiops }))
 
-pub devices : List Seen
+unfoldable pub devices : List Seen
 devices =
     -- hdd, ssd_qd1, ssd_dfl, ssd_fast
     see (prices 174019176 41708 370 178075866 42705 378) (23538 ∷ 439 ∷ 2679165 ∷ 23002 ∷ 415 ∷ 2622501 ∷ [])
@@ -368,15 +360,11 @@ devices =
     ∷ see (prices 3102524156 724816 778122 1742780862 425702 443193) (1321 ∷ 59 ∷ 0 ∷ 2351 ∷ 0 ∷ 0 ∷ [])
     ∷ []
 
-pub devices_hold : all_same devices ≡ true
-unfolding computed devices
-devices_hold = refl
-
 -- ---- the ledger of the same calls: accepted, issued, released, repaid and forgiven of a leaf, and what is generated
 abbrev pub heads : Call → Controller → ℕ → List ℕ
 heads k c n = accepted k c n ∷ issued k c n ∷ released k c n ∷ repaid k c n ∷ forgiven k c n ∷ generated k c ∷ []
 
-pub ledger : List Seen
+unfoldable pub ledger : List Seen
 ledger =
     -- a bio of leaf 1: issued; waits; goes on debt; refused, since its bytes are no multiple of 512
     see (heads (Call.submit (bio 1 0 4096)) saved6 1) (20000 ∷ 20000 ∷ 0 ∷ 0 ∷ 0 ∷ 0 ∷ [])
@@ -398,36 +386,32 @@ ledger =
     ∷ see (charged (Call.tick 11000 (9 ∷ [])) both6 ∷ saved saved6 ∷ []) (15000 ∷ (400000 * 873741824 + 900000 * 200000000) ∷ [])
     ∷ []
 
-pub ledger_holds : all_same ledger ≡ true
-unfolding computed ledger saved6 waits6 owes6 both6 small6 accepted issued released repaid forgiven generated cost_on released_at repaid_at forgiven_at cost_of_first cost_waiting charged saved
-ledger_holds = refl
-
 -- ---- the replay, by its parts
 -- which of the kinds are in a phase
-abbrev kinds_in : Phase → List ℕ
+abbrev pub kinds_in : Phase → List ℕ
 kinds_in phase = table_from (λ kind. bit (in_phase phase kind)) 1 8
 
-abbrev phase_number : Phase → ℕ
+abbrev pub phase_number : Phase → ℕ
 phase_number Setup = 0
 phase_number Priced = 1
 phase_number Running = 2
 phase_number Stopped = 3
 
 -- a replay of no node in this phase, its tree and its rates, and what a record does to it
-abbrev at : Phase → Replay
+abbrev pub at : Phase → Replay
 at phase = within phase root_tree slowest beginning.state
 
-abbrev after : Record → Phase → Step
+abbrev pub after : Record → Phase → Step
 after r phase = stepped (Found r 9) (at phase)
 
 -- a ninth bio of a leaf with 8 waiting
-abbrev refused7 : Step
+abbrev pub refused7 : Step
 refused7 = stepped (Found (BioOf (bio 1 0 4096)) 9) (within Running root_tree slowest (put_leaf 1 (saved_row 0) (holding 8) (state9 0)))
 
-abbrev tree_numbers : Tree → List ℕ
+abbrev pub tree_numbers : Tree → List ℕ
 tree_numbers t = t.count ∷ take 3 t.parents ++ take 3 t.weights
 
-pub parts : List Seen
+unfoldable pub parts : List Seen
 parts =
     see (kinds_in Setup) (1 ∷ 1 ∷ 0 ∷ 0 ∷ 0 ∷ 0 ∷ 0 ∷ 0 ∷ [])
     ∷ see (kinds_in Priced) (1 ∷ 0 ∷ 1 ∷ 0 ∷ 0 ∷ 0 ∷ 0 ∷ 0 ∷ [])
@@ -468,10 +452,6 @@ parts =
     ∷ see (tick_call 0 crowded).bytes []
     ∷ []
 
-pub parts_hold : all_same parts ≡ true
-unfolding computed parts crowded
-parts_hold = refl
-
 -- ---- a trace with lines of every kind: refused calls with their numbers, two releases in a row, an id of ten digits, shares that
 -- are donated, a plan with no time since the last, and a kind that nobody knows, behind which nothing is read. Leaf 1, alone, waits for 100,000 and 20,000. Then both
 -- hold a quarter and three quarters; at vrate 200 leaf 2 repays 60,000, 15,000 and 25,000, and the plan, at E 320,000 with usages
@@ -479,7 +459,7 @@ parts_hold = refl
 abbrev pub asked : ℕ → ℕ → ℕ → ℕ → Record
 asked node flags id sector = BioOf (record { node = node; flags = flags; id = id; sector = sector; bytes = 4096 })
 
-pub every_trace : List ℕ
+unfoldable pub every_trace : List ℕ
 every_trace =
     bytes_of_all (
     Node 0 100 ∷ Node 0 300 ∷ ModelOf (rates_M 50000) ∷ Start 1000
@@ -490,7 +470,7 @@ every_trace =
     )
     ++ (0 ∷ record_bytes Plan)
 
-pub every_output : List ℕ
+unfoldable pub every_output : List ℕ
 every_output =
     82 ∷ 32 ∷ 49 ∷ 53 ∷ 10  -- R 15
     ∷ 82 ∷ 32 ∷ 49 ∷ 52 ∷ 10  -- R 14
@@ -509,7 +489,3 @@ every_output =
     ∷ 82 ∷ 32 ∷ 49 ∷ 52 ∷ 10  -- R 14
     ∷ 82 ∷ 32 ∷ 49 ∷ 54 ∷ 10  -- R 16
     ∷ []
-
-pub every_kind_of_line : replay every_trace ≡ every_output
-unfolding computed every_trace every_output
-every_kind_of_line = refl

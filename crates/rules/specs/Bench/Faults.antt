@@ -1,6 +1,6 @@
 -- Numbers of their own for what is wrong with a tree: which number, which node, what is looked at first, and the lines of it.
 -- Assumes nothing.
-use Rattle.std.specs.Prelude.{◌≡◌, refl, true, List, [], ◌∷◌, ◌++◌, ℕ, ◌-◌, ◌^◌, length, replicate, set}
+use Rattle.std.specs.Prelude.{List, [], ◌∷◌, ◌++◌, ℕ, ◌-◌, ◌^◌, length, replicate, set}
 use Rattle.rules.specs.Numbers.{refusal_room}
 use Rattle.rules.specs.Budget.{fresh}
 use Rattle.rules.specs.Tree.{tree_fault}
@@ -13,55 +13,55 @@ use Rattle.rules.specs.declared.tree.Fault.TheVariants.{Level}
 use Rattle.rules.specs.declared.refusals.Refusal.{Refusal}
 use Rattle.rules.specs.declared.refusals.Refusal.TheVariants.{BadTree, ThinTree, BadRate, NoLeaf, BadBio, TooDear, QueueFull, DebtFull, TimeBack, TimeFar, ClockFull, PlanDue, FewPlaces, NothingPassed, BadVrate, UnknownKind, CutShort, WrongPhase, NotBelowRoot, ShortBuffer}
 use Rattle.rules.specs.declared.trace.Record.{Record}
-use Rattle.rules.specs.declared.trace.Record.TheVariants.{Node, Model as ModelOf, Start}
+use Rattle.rules.specs.declared.trace.Record.TheVariants.{Node, Start}
 use Rattle.rules.specs.declared.trace.Read.TheVariants.{Found}
 use Rattle.rules.specs.declared.replay.Phase.TheVariants.{Setup, Priced}
-use Rattle.rules.specs.Bench.{computed, bytes_of_all, rates_M, M, tree, tree5, tree7}
-use Rattle.rules.specs.Bench.Edges.{Seen, see, all_same, chain, star}
+use Rattle.rules.specs.Bench.{bytes_of_all, M, tree, tree5, tree7}
+use Rattle.rules.specs.Bench.Edges.{Seen, see, chain, star}
 
 -- what is said on paper: the number, 0 where nothing is refused, and the node
-abbrev told : List Check → List ℕ
+abbrev pub told : List Check → List ℕ
 told ks = let p = verdict_paper (first_of ks) in p.number ∷ p.values
 
 -- the same of the rules of a tree alone, whether it is thin or not
-abbrev alone : Tree → List ℕ
+abbrev pub alone : Tree → List ℕ
 alone t = fault_number (tree_fault t) ∷ []
 
 -- a tree with another parent, or another weight, at a node
-abbrev hung : ℕ → ℕ → Tree → Tree
+abbrev pub hung : ℕ → ℕ → Tree → Tree
 hung n p t = record { count = t.count; parents = set t.parents n p; weights = t.weights }
 
-abbrev weighing : ℕ → ℕ → Tree → Tree
+abbrev pub weighing : ℕ → ℕ → Tree → Tree
 weighing n w t = record { count = t.count; parents = t.parents; weights = set t.weights n w }
 
 -- with places for nodes to come
-abbrev roomy : Tree → Tree
+abbrev pub roomy : Tree → Tree
 roomy t = record { count = t.count; parents = t.parents ++ replicate 64 0; weights = t.weights ++ replicate 64 0 }
 
 -- 60 nodes: 59 leaves below the root, of which 37 may be at fault
-abbrev sixty : Tree
+abbrev pub sixty : Tree
 sixty = star 59
 
 -- a chain of nine nodes at node 51 of the same
-abbrev deep : Tree
+abbrev pub deep : Tree
 deep = hung 59 58 (hung 58 57 (hung 57 56 (hung 56 55 (hung 55 54 (hung 54 53 (hung 53 52 (hung 52 51 sixty)))))))
 
 -- no rate of these is in range
-abbrev no_rates : Rates
+abbrev pub no_rates : Rates
 no_rates = record { rbps = 0; rseqiops = 0; rrandiops = 0; wbps = 0; wseqiops = 0; wrandiops = 0 }
 
 -- every other refusal of the table
-abbrev others : List Refusal
+abbrev pub others : List Refusal
 others =
     ThinTree ∷ BadRate ∷ NoLeaf ∷ BadBio ∷ TooDear ∷ QueueFull ∷ DebtFull ∷ TimeBack ∷ TimeFar ∷ ClockFull ∷ PlanDue ∷ FewPlaces
     ∷ NothingPassed ∷ BadVrate ∷ UnknownKind ∷ CutShort ∷ WrongPhase ∷ NotBelowRoot ∷ ShortBuffer ∷ []
 
 -- each by its number and what it names
-abbrev papers : List Refusal → List ℕ
+abbrev pub papers : List Refusal → List ℕ
 papers [] = []
 papers (x ∷ xs) = number x ∷ named x ++ papers xs
 
-pub faults : List Seen
+unfoldable pub faults : List Seen
 faults =
     -- the count comes before all, and names node 0
     see (told (tree_checks (tree 0 [] []))) (20 ∷ 0 ∷ [])
@@ -134,18 +134,6 @@ faults =
     ∷ see (stepped (Found (Start 0) 9) (within Priced root_tree slowest (fresh tree5 M 0))).bytes (82 ∷ 32 ∷ 50 ∷ 48 ∷ 32 ∷ 48 ∷ 10 ∷ [])
     ∷ []
 
-pub faults_hold : all_same faults ≡ true
-unfolding computed faults
-faults_hold = refl
-
 -- ---- traces: the replay stops at the first faulty record, R 21 2, R 22 3, R 23 9
-abbrev setup : List Record → List ℕ
+abbrev pub setup : List Record → List ℕ
 setup more = replay (bytes_of_all (Node 0 100 ∷ more))
-
-pub faults_in_traces :
-    (setup (Node 2 0 ∷ Node 0 0 ∷ []) ≡ 82 ∷ 32 ∷ 50 ∷ 49 ∷ 32 ∷ 50 ∷ 10 ∷ [])
-    × (setup (ModelOf (rates_M 50000) ∷ Node 1 300 ∷ Node 0 0 ∷ Start 0 ∷ []) ≡ 82 ∷ 32 ∷ 50 ∷ 50 ∷ 32 ∷ 51 ∷ 10 ∷ [])
-    × (setup (Node 1 1 ∷ Node 2 1 ∷ Node 3 1 ∷ Node 4 1 ∷ Node 5 1 ∷ Node 6 1 ∷ Node 7 1 ∷ Node 8 1 ∷ Node 9 1 ∷ [])
-    ≡ 82 ∷ 32 ∷ 50 ∷ 51 ∷ 32 ∷ 57 ∷ 10 ∷ [])
-unfolding computed
-faults_in_traces = (refl, refl, refl)

@@ -1,13 +1,13 @@
 -- Numbers of their own for flushes: what is one, what it costs wherever the last bio ended, what it leaves of its leaf, and a run in
 -- which flushes are issued, wait, go on debt and are refused.
 -- Assumes nothing.
-use Rattle.std.specs.Prelude.{◌≡◌, refl, true, List, [], ◌∷◌, ◌++◌, ℕ, ◌+◌, ◌-◌, ◌^◌, replicate, take}
+use Rattle.std.specs.Prelude.{true, List, [], ◌∷◌, ◌++◌, ℕ, ◌+◌, ◌-◌, ◌^◌, replicate, take}
 use Rattle.rules.specs.Units.{abs, virt}
 use Rattle.rules.specs.Cost.{priced}
 use Rattle.rules.specs.Budget.{empty_row, fresh, row_at, queue_at, with_clock, with_sharing, with_books, put_leaf, with_budget, with_debt, with_end}
 use Rattle.rules.specs.Refusals.{answer_paper, costing_paper}
 use Rattle.rules.specs.Entries.{costing, started, submitted, planned}
-use Rattle.rules.specs.Ledger.{Call, cost_waiting, cost_of_first, cost_on, released_at, repaid_at, forgiven_at, accepted, issued, released, repaid, forgiven, generated}
+use Rattle.rules.specs.Ledger.{Call, accepted}
 use Rattle.rules.specs.declared.cost.Rates.{Rates}
 use Rattle.rules.specs.declared.cost.Model.{Model}
 use Rattle.rules.specs.declared.cost.Bio.{Bio}
@@ -18,48 +18,48 @@ use Rattle.rules.specs.declared.refusals.Answer.TheVariants.{Issued, Waits, OnDe
 use Rattle.rules.specs.declared.refusals.Count.TheVariants.{Released}
 use Rattle.rules.specs.declared.refusals.Verdict.TheVariants.{Accepted}
 use Rattle.rules.specs.declared.refusals.Refusal.TheVariants.{BadBio, QueueFull}
-use Rattle.rules.specs.Bench.{computed, at_zero, tree6, tree7}
-use Rattle.rules.specs.Bench.Run.{Move, replies, wants, left, run_tree, send, tick_to, plans}
-use Rattle.rules.specs.Bench.Edges.{Seen, see, all_same, leaf_numbers, queue_numbers, book_numbers, top, leaf1, leaf2, leaf3, heads, saved6, waits6, owes6}
+use Rattle.rules.specs.Bench.{at_zero, tree6, tree7}
+use Rattle.rules.specs.Bench.Run.{Move, left, run_tree, send, tick_to, plans}
+use Rattle.rules.specs.Bench.Edges.{Seen, see, leaf_numbers, queue_numbers, book_numbers, top, leaf1, leaf2, leaf3, heads, saved6, waits6, owes6}
 
 -- ---- ssd_dfl of the devices, whose six prices differ: a read's page, sequential base and random base are 8,383, 103,575 and
 -- 109,016, a write's 9,573, 25,204 and 36,006
 abbrev pub ssd_rates : Rates
 ssd_rates = record { rbps = 488636629; rseqiops = 8932; rrandiops = 8518; wbps = 427891549; wseqiops = 28755; wrandiops = 21940 }
 
-abbrev ssd : Model
+abbrev pub ssd : Model
 ssd = priced ssd_rates
 
 -- the books of a state of three leaves on that device
-abbrev on : Controller → Controller
+abbrev pub on : Controller → Controller
 on c = with_books c.rows c.queues (with_sharing c.active c.donors c.shares (with_clock c.clock (fresh tree6 ssd 0)))
 
 -- a bio of node, flags, sector and bytes
-abbrev at : ℕ → ℕ → ℕ → ℕ → Bio
+abbrev pub at : ℕ → ℕ → ℕ → ℕ → Bio
 at node flags sector bytes = record { node = node; flags = flags; id = 7; sector = sector; bytes = bytes }
 
-abbrev flush : ℕ → ℕ → Bio
+abbrev pub flush : ℕ → ℕ → Bio
 flush node sector = at node 1 sector 0
 
-abbrev forced_flush : ℕ → ℕ → Bio
+abbrev pub forced_flush : ℕ → ℕ → Bio
 forced_flush node sector = at node 3 sector 0
 
 -- a leaf whose last bio ended far away
-abbrev far_off : Row
+abbrev pub far_off : Row
 far_off = with_end 1000000 true at_zero
 
 -- the number and the values of what a bio costs on a leaf
-abbrev price_at : Model → Row → Bio → List ℕ
+abbrev pub price_at : Model → Row → Bio → List ℕ
 price_at m r b = (costing_paper (costing m r b)).number ∷ (costing_paper (costing m r b)).values
 
-abbrev says : Row → Bio → List ℕ
+abbrev pub says : Row → Bio → List ℕ
 says r b = price_at ssd r b
 
 -- the same device with reads and writes changed about: a write's page is the cheaper one
-abbrev turned : Model
+abbrev pub turned : Model
 turned = record { read = ssd.write; write = ssd.read }
 
-pub flush_costs : List Seen
+unfoldable pub flush_costs : List Seen
 flush_costs =
     -- one write page: first, near and far, forced or not
     see (says empty_row (flush 1 0) ++ says at_zero (flush 1 0) ++ says far_off (flush 1 0)) (0 ∷ 9573 ∷ 0 ∷ 9573 ∷ 0 ∷ 9573 ∷ [])
@@ -75,31 +75,27 @@ flush_costs =
     ∷ see (says at_zero (at 1 4 0 0) ++ says at_zero (at 1 5 0 0) ++ says at_zero (at 1 7 0 0) ++ says at_zero (at 1 255 0 0)) (5 ∷ 5 ∷ 5 ∷ 5 ∷ [])
     ∷ []
 
-pub flush_costs_hold : all_same flush_costs ≡ true
-unfolding computed flush_costs
-flush_costs_hold = refl
-
 -- ---- whole books behind a flush: leaf 1's last bio ended at 40, leaf 2 had none, leaf 3 is not active
-abbrev then : Bio → Controller → List ℕ
+abbrev pub then : Bio → Controller → List ℕ
 then b c = book_numbers (submitted b (on c)).state
 
 -- what a bio is answered
-abbrev told : Bio → Controller → List ℕ
+abbrev pub told : Bio → Controller → List ℕ
 told b c = (answer_paper (submitted b c).answer).number ∷ (answer_paper (submitted b c).answer).values
 
 -- leaf 1 owes so much
-abbrev owing6 : ℕ → Controller
+abbrev pub owing6 : ℕ → Controller
 owing6 debt = put_leaf 1 (with_debt (abs debt) (row_at owes6 1)) (queue_at owes6 1) (on owes6)
 
 -- the donor has saved so much
-abbrev giving6 : ℕ → Controller
+abbrev pub giving6 : ℕ → Controller
 giving6 budget = put_leaf 2 (with_budget (virt budget) (row_at saved6 2)) (queue_at saved6 2) saved6
 
 -- what a read of 4,096 bytes at a sector costs behind a bio
-abbrev next : ℕ → ℕ → Bio → Controller → ℕ
+abbrev pub next : ℕ → ℕ → Bio → Controller → ℕ
 next node sector b c = accepted (Call.submit (at node 2 sector 4096)) (submitted b (on c)).state node
 
-pub flush_books : List Seen
+unfoldable pub flush_books : List Seen
 flush_books =
     -- issued, 11,765 at its share: the end stays at 40, and it counts since the last plan; the donation stands
     see (then (flush 1 0) saved6) (top 6 4 ++ (873741824 ∷ 388235 ∷ 0 ∷ 9580 ∷ 40 ∷ 1 ∷ 1 ∷ 7 ∷ 0 ∷ leaf2 ++ leaf3))
@@ -152,15 +148,11 @@ flush_books =
     ∷ see (heads (Call.submit (at 1 0 0 0)) (on saved6) 1) (replicate 6 0)
     ∷ []
 
-pub flush_books_hold : all_same flush_books ≡ true
-unfolding computed flush_books saved6 waits6 owes6 accepted issued released repaid forgiven generated cost_on released_at repaid_at forgiven_at cost_of_first cost_waiting
-flush_books_hold = refl
-
 -- ---- a run of leaf 1, alone, with the budget of each tick worked out to the last nanosecond
-abbrev flushed : ℕ → ℕ → ℕ → Answer → Move
+abbrev pub flushed : ℕ → ℕ → ℕ → Answer → Move
 flushed flags id sector answer = send 1 flags id sector 0 answer
 
-pub flushing : List Move
+unfoldable pub flushing : List Move
 flushing =
     -- the first bio is a flush, which wakes its leaf, waits for 9,573 and is released
     flushed 1 1 0 Waits
@@ -218,26 +210,9 @@ flushing =
 unfoldable pub flush_begun : Controller
 flush_begun = (started run_tree ssd_rates 0).state
 
-pub flush_answers : replies flushing flush_begun ≡ wants flushing
-unfolding computed flushing flush_begun
-flush_answers = refl
-
 abbrev pub flushed_up_to : ℕ → Controller
 flushed_up_to k = left (take k flushing) flush_begun
 
 -- the active leaves and leaf 1, after so many moves
-abbrev stands : ℕ → List ℕ
+abbrev pub stands : ℕ → List ℕ
 stands k = (flushed_up_to k).active ∷ leaf_numbers (flushed_up_to k) 1
-
-pub flushes_reach :
-    (stands 1 ≡ 2 ∷ 1073741824 ∷ 0 ∷ 0 ∷ 0 ∷ 0 ∷ 0 ∷ 1 ∷ 0 ∷ 1 ∷ [])
-    × (stands 3 ≡ 2 ∷ 1073741824 ∷ 0 ∷ 0 ∷ 9573 ∷ 0 ∷ 0 ∷ 1 ∷ 1 ∷ 0 ∷ [])
-    × (stands 11 ≡ 2 ∷ 1073741824 ∷ 0 ∷ 0 ∷ 248503 ∷ 16 ∷ 1 ∷ 1 ∷ 4 ∷ 0 ∷ [])
-    × (stands 27 ≡ 2 ∷ 1073741824 ∷ 0 ∷ 28719 ∷ 248503 ∷ 16 ∷ 1 ∷ 1 ∷ 4 ∷ 8 ∷ [])
-    × (stands 31 ≡ 2 ∷ 1073741824 ∷ 0 ∷ 0 ∷ 363379 ∷ 16 ∷ 1 ∷ 1 ∷ 4 ∷ 0 ∷ [])
-    × (stands 36 ≡ 2 ∷ 1073741824 ∷ 1 ∷ 0 ∷ 0 ∷ 16 ∷ 1 ∷ 0 ∷ 4 ∷ 0 ∷ [])
-    × (stands 39 ≡ 2 ∷ 1073741824 ∷ 0 ∷ 0 ∷ 0 ∷ 16 ∷ 1 ∷ 0 ∷ 5 ∷ 0 ∷ [])
-    × (stands 41 ≡ 0 ∷ 0 ∷ 0 ∷ 0 ∷ 0 ∷ 16 ∷ 1 ∷ 0 ∷ 5 ∷ 0 ∷ [])
-    × (stands 42 ≡ 2 ∷ 1073741824 ∷ 0 ∷ 0 ∷ 0 ∷ 16 ∷ 1 ∷ 1 ∷ 5 ∷ 1 ∷ [])
-unfolding computed flushing flush_begun
-flushes_reach = (refl, refl, refl, refl, refl, refl, refl, refl, refl)

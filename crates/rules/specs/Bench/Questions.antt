@@ -1,7 +1,7 @@
 -- Numbers of their own for the question: what it answers by what is the leaf's own, on both sides of every edge, what it answers in
 -- states where another leaf, another share or another row would answer otherwise, and the bench's run with a question before each bio.
 -- Assumes nothing.
-use Rattle.std.specs.Prelude.{◌≡◌, refl, true, false, List, [], ◌∷◌, ◌++◌, ℕ, ◌+◌, ◌-◌, ◌^◌, replicate}
+use Rattle.std.specs.Prelude.{true, false, List, [], ◌∷◌, ◌++◌, ℕ, ◌+◌, ◌-◌, ◌^◌, replicate}
 use Rattle.rules.specs.Numbers.{whole}
 use Rattle.rules.specs.Units.{abs, virt}
 use Rattle.rules.specs.Cost.{priced}
@@ -9,51 +9,51 @@ use Rattle.rules.specs.Budget.{empty_row, empty_queue, fresh, row_at, queue_at, 
 use Rattle.rules.specs.Refusals.{answer_paper}
 use Rattle.rules.specs.Entries.{submitted}
 use Rattle.rules.specs.Question.{ruling, asked, question}
-use Rattle.rules.specs.Ledger.{Call, after, cost_waiting, cost_of_first, cost_on, released_at, repaid_at, forgiven_at, accepted, issued, released, repaid, forgiven, generated, exact}
+use Rattle.rules.specs.Ledger.{Call, after, exact}
 use Rattle.rules.specs.declared.cost.Model.{Model}
 use Rattle.rules.specs.declared.cost.Bio.{Bio}
 use Rattle.rules.specs.declared.budget.Row.{Row}
 use Rattle.rules.specs.declared.budget.Own.{Own}
 use Rattle.rules.specs.declared.budget.Controller.{Controller}
 use Rattle.rules.specs.declared.refusals.Answer.{Answer}
-use Rattle.rules.specs.Bench.{computed, M, tree5, tree7, bio}
-use Rattle.rules.specs.Bench.Run.{Reply, Move, replies, wants, run_rates, begun, moves}
-use Rattle.rules.specs.Bench.Edges.{Seen, see, all_same, book_numbers, heads, saved6, waits6, owes6}
+use Rattle.rules.specs.Bench.{M, tree5, tree7, bio}
+use Rattle.rules.specs.Bench.Run.{Reply, Move, run_rates}
+use Rattle.rules.specs.Bench.Edges.{Seen, see, book_numbers, heads, saved6, waits6, owes6}
 
 -- ---- by what is the leaf's own: a bio of flags, sector and bytes
-abbrev at : ℕ → ℕ → ℕ → Bio
+abbrev pub at : ℕ → ℕ → ℕ → Bio
 at flags sector bytes = record { node = 1; flags = flags; id = 7; sector = sector; bytes = bytes }
 
-abbrev says : Answer → List ℕ
+abbrev pub says : Answer → List ℕ
 says a = (answer_paper a).number ∷ (answer_paper a).values
 
 -- a leaf of a share on a device, with this row, at which so many wait
-abbrev leaf_on : Model → ℕ → Row → ℕ → Own
+abbrev pub leaf_on : Model → ℕ → Row → ℕ → Own
 leaf_on m share row waiting = record { leaf = true; active = true; model = m; share = share; row = row; waiting = waiting }
 
 -- and one that is not active, and a node that is no leaf, whatever their books have
-abbrev resting : Own → Own
+abbrev pub resting : Own → Own
 resting o = record { leaf = true; active = false; model = o.model; share = o.share; row = o.row; waiting = o.waiting }
 
-abbrev inner : Own → Own
+abbrev pub inner : Own → Own
 inner o = record { leaf = false; active = o.active; model = o.model; share = o.share; row = o.row; waiting = o.waiting }
 
 -- budget and debt, of a leaf whose last bio ended at sector 40, and of one that had none
-abbrev near : ℕ → ℕ → Row
+abbrev pub near : ℕ → ℕ → Row
 near budget debt = record { budget = virt budget; debt = abs debt; usage = abs 5; end = 40; begun = true; accepted = true }
 
-abbrev first : ℕ → ℕ → Row
+abbrev pub first : ℕ → ℕ → Row
 first budget debt = record { budget = virt budget; debt = abs debt; usage = abs 5; end = 40; begun = false; accepted = true }
 
 -- a leaf that holds half of the device
-abbrev half : Row → ℕ → Own
+abbrev pub half : Row → ℕ → Own
 half = leaf_on M 536870912
 
 -- what the slowest writes cost: a page is a second, so three are too dear
-abbrev slow : Model
+abbrev pub slow : Model
 slow = priced run_rates
 
-pub question_numbers : List Seen
+unfoldable pub question_numbers : List Seen
 question_numbers =
     -- a read behind the last end costs 20,000, which is 40,000 of this leaf's budget: one less waits, or goes on debt if forced
     see (says (asked (at 0 40 4096) (half (near 40000 0) 0)) ++ says (asked (at 0 40 4096) (half (near 39999 0) 0))) (0 ∷ 73 ∷ 0 ∷ 87 ∷ [])
@@ -101,37 +101,33 @@ question_numbers =
     ∷ see ((ruling (at 4 40 4096) (half (near 40000 0) 0)).cost.0 ∷ (ruling (at 3 40 12288) (leaf_on slow whole (near 40000 0) 0)).cost.0 ∷ []) (0 ∷ 0 ∷ [])
     ∷ []
 
-pub question_numbers_hold : all_same question_numbers ≡ true
-unfolding computed question_numbers
-question_numbers_hold = refl
-
 -- ---- in a state: leaf 1 takes, leaf 2 gives and leaf 3 is not active
 -- what the question answers, and what submission answers
-abbrev tells : Bio → Controller → List ℕ
+abbrev pub tells : Bio → Controller → List ℕ
 tells b c = says (question b c) ++ says (submitted b c).answer
 
 -- leaf 2 has saved so much: it holds 200,000,000, and its base share is 536,870,912
-abbrev giving6 : ℕ → Controller
+abbrev pub giving6 : ℕ → Controller
 giving6 budget = put_leaf 2 (with_budget (virt budget) (row_at saved6 2)) (queue_at saved6 2) saved6
 
 -- and leaf 1
-abbrev taking6 : ℕ → Controller
+abbrev pub taking6 : ℕ → Controller
 taking6 budget = put_leaf 1 (with_budget (virt budget) (row_at saved6 1)) (queue_at saved6 1) saved6
 
 -- leaf 1 has that many of the eight waiting
-abbrev full6 : ℕ → Controller
+abbrev pub full6 : ℕ → Controller
 full6 len = put_leaf 1 (row_at waits6 1) (record { ids = (queue_at waits6 1).ids; costs = (queue_at waits6 1).costs; head = 7; len = len }) waits6
 
-abbrev indebted6 : ℕ → Controller
+abbrev pub indebted6 : ℕ → Controller
 indebted6 debt = put_leaf 1 (with_debt (abs debt) (row_at owes6 1)) (queue_at owes6 1) owes6
 
 -- what node 1 of saved6 has, in a state of which all else is another's: the tree, the sets but for node 1, the clock, the other books
-abbrev elsewhere : Controller
+abbrev pub elsewhere : Controller
 elsewhere =
     put_leaf 1 (row_at saved6 1) empty_queue
     (with_sharing 2 0 (0 ∷ 873741824 ∷ 0 ∷ []) (fresh tree5 M 9))
 
-pub questions_asked : List Seen
+unfoldable pub questions_asked : List Seen
 questions_asked =
     -- the donor's first read costs 100,000: 536,871 at the share that it holds, and 200,000 at its base share
     see (tells (bio 2 0 4096) (giving6 536871) ++ tells (bio 2 0 4096) (giving6 536870)) (0 ∷ 73 ∷ 0 ∷ 73 ∷ 0 ∷ 87 ∷ 0 ∷ 87 ∷ [])
@@ -159,22 +155,14 @@ questions_asked =
     ∷ see (exact (Call.ask (bio 1 0 4096)) saved6 ∷ []) (0 ∷ [])
     ∷ []
 
-pub questions_asked_hold : all_same questions_asked ≡ true
-unfolding computed questions_asked saved6 waits6 owes6 accepted issued released repaid forgiven generated exact cost_on released_at repaid_at forgiven_at cost_of_first cost_waiting
-questions_asked_hold = refl
-
 -- ---- the bench's run with a question before each bio, which has the bio's own answer: every one of them, and 4 to 8 among them
-abbrev asks_first : Call → Reply → List Move → List Move
+abbrev pub asks_first : Call → Reply → List Move → List Move
 asks_first (Call.submit b) want ms = record { call = Call.ask b; want = want } ∷ record { call = Call.submit b; want = want } ∷ ms
 asks_first (Call.ask b) want ms = record { call = Call.ask b; want = want } ∷ ms
 asks_first (Call.tick time lent) want ms = record { call = Call.tick time lent; want = want } ∷ ms
 asks_first Call.plan want ms = record { call = Call.plan; want = want } ∷ ms
 asks_first (Call.set x) want ms = record { call = Call.set x; want = want } ∷ ms
 
-abbrev asking_first : List Move → List Move
+abbrev pub asking_first : List Move → List Move
 asking_first [] = []
 asking_first (m ∷ ms) = asks_first m.call m.want (asking_first ms)
-
-pub asked_before_each_bio : replies (asking_first moves) begun ≡ wants (asking_first moves)
-unfolding computed moves begun
-asked_before_each_bio = refl

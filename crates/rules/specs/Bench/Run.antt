@@ -1,11 +1,9 @@
 -- A run: calls from a fresh start with answers of every kind, so that a promise about sound states is no empty one.
 -- Assumes nothing.
-use Rattle.std.specs.Prelude.{◌≡◌, refl, List, [], ◌∷◌, ◌++◌, ℕ, ◌+◌, ◌-◌, ◌^◌, replicate, take}
+use Rattle.std.specs.Prelude.{List, [], ◌∷◌, ◌++◌, ℕ, ◌-◌, replicate, take}
 use Rattle.rules.specs.Numbers.{nodes_most}
 use Rattle.rules.specs.Units.{virt}
 use Rattle.rules.specs.Budget.{row_at, share_at, with_clock, with_times}
-use Rattle.rules.specs.Tick.{tick}
-use Rattle.rules.specs.Plan.{plan}
 use Rattle.rules.specs.Question.{question}
 use Rattle.rules.specs.Entries.{started, submitted, ticked, lent_of, planned, set_by}
 use Rattle.rules.specs.Ledger.{Call, after}
@@ -20,8 +18,7 @@ use Rattle.rules.specs.declared.refusals.Count.{Count}
 use Rattle.rules.specs.declared.refusals.Count.TheVariants.{Released, Refused as Unticked}
 use Rattle.rules.specs.declared.refusals.Verdict.{Verdict}
 use Rattle.rules.specs.declared.refusals.Verdict.TheVariants.{Accepted, Refused}
-use Rattle.rules.specs.declared.refusals.Refusal.TheVariants.{NoLeaf, BadBio, TooDear, QueueFull, DebtFull, TimeBack, TimeFar, ClockFull, PlanDue, FewPlaces, NothingPassed, BadVrate, BadTree, NotBelowRoot}
-use Rattle.rules.specs.Bench.{computed}
+use Rattle.rules.specs.declared.refusals.Refusal.TheVariants.{NoLeaf, BadBio, TooDear, QueueFull, DebtFull, TimeBack, TimeFar, PlanDue, FewPlaces, NothingPassed, BadVrate, BadTree, NotBelowRoot}
 
 -- ---- each call with what it answers. Every state of the run is sound (`bench_run_is_sound` in Demand3/Sentences)
 pub data Reply : Type 0 where
@@ -34,7 +31,7 @@ pub record Move : Type 0 where
   pub want : Reply
 
 -- what a call answers, a tick with its buffer
-abbrev reply : Call → Controller → Reply
+abbrev pub reply : Call → Controller → Reply
 reply (Call.submit b) c = to_bio (submitted b c).answer
 reply (Call.ask b) c = to_bio (question b c)
 reply (Call.tick time lent) c = to_tick (ticked time lent c).answer (lent_of time lent c)
@@ -67,10 +64,10 @@ tick_to time places answer lent = record { call = Call.tick time (replicate plac
 abbrev pub plans : Verdict → Move
 plans answer = record { call = Call.plan; want = to_other answer }
 
-abbrev rate : ℕ → Verdict → Move
+abbrev pub rate : ℕ → Verdict → Move
 rate v answer = record { call = Call.set (SetVrate v); want = to_other answer }
 
-abbrev weigh : ℕ → ℕ → Verdict → Move
+abbrev pub weigh : ℕ → ℕ → Verdict → Move
 weigh n w answer = record { call = Call.set (SetWeight n w); want = to_other answer }
 
 -- the tree of B5 in the arrays of the code, and M with the slowest writes, a page of which costs a second
@@ -130,32 +127,20 @@ moves =
     ∷ tick_to 2000500002 0 (Released 0) []
     ∷ [])
 
-pub run_answers : replies moves begun ≡ wants moves
-unfolding computed moves begun
-run_answers = refl
-
 -- what stands after the first k moves: the donation of the first plan, its end, the second plan, and what the run leaves
 abbrev pub up_to : ℕ → Controller
 up_to k = left (take k moves) begun
 
 -- the active leaves, the donors, and of the leaves 1 and 2 share, budget and debt
-abbrev seen : Controller → List ℕ
+abbrev pub seen : Controller → List ℕ
 seen c =
     c.active ∷ c.donors
     ∷ share_at c 1 ∷ (row_at c 1).budget.0 ∷ (row_at c 1).debt.0
     ∷ share_at c 2 ∷ (row_at c 2).budget.0 ∷ (row_at c 2).debt.0
     ∷ []
 
-pub run_reaches :
-    (seen (up_to 26) ≡ 6 ∷ 4 ∷ 751619277 ∷ 0 ∷ 0 ∷ 322122547 ∷ 239999 ∷ 0 ∷ [])
-    × (seen (up_to 27) ≡ 6 ∷ 0 ∷ 268435456 ∷ 0 ∷ 0 ∷ 805306368 ∷ 95999 ∷ 0 ∷ [])
-    × (seen (up_to 582) ≡ 6 ∷ 4 ∷ 1073310649 ∷ 33567911 ∷ 549000000000 ∷ 431175 ∷ 134217728 ∷ 0 ∷ [])
-    × (seen (up_to 585) ≡ 2 ∷ 0 ∷ 1073741824 ∷ 0 ∷ 548966445561 ∷ 0 ∷ 0 ∷ 0 ∷ [])
-unfolding computed moves begun
-run_reaches = (refl, refl, refl, refl)
-
 -- ---- weights, where the donation of the first plan stands: refused ones leave it, and an accepted one ends it
-pub weights : List Move
+unfoldable pub weights : List Move
 weights =
     weigh 0 100 (Refused NotBelowRoot)
     ∷ weigh 3 0 (Refused NotBelowRoot)
@@ -166,22 +151,6 @@ weights =
 abbrev pub weights_up_to : ℕ → Controller
 weights_up_to k = left (take k weights) (up_to 26)
 
-pub weight_answers : replies weights (up_to 26) ≡ wants weights
-unfolding computed moves begun weights
-weight_answers = refl
-
-pub weights_reach :
-    (seen (weights_up_to 3) ≡ 6 ∷ 4 ∷ 751619277 ∷ 0 ∷ 0 ∷ 322122547 ∷ 239999 ∷ 0 ∷ [])
-    × (seen (weights_up_to 4) ≡ 6 ∷ 0 ∷ 536870912 ∷ 0 ∷ 0 ∷ 536870912 ∷ 143999 ∷ 0 ∷ [])
-unfolding computed moves begun weights
-weights_reach = (refl, refl)
-
 -- 11: a state at another virtual time, which the ticks of no list of a bearable length bring about
 abbrev pub aged : ℕ → Controller → Controller
 aged vtime c = with_clock (with_times c.clock.time (virt vtime) c.clock.since c.clock) c
-
--- a nanosecond more is 4 of virtual time
-pub limit_answers : (reply (Call.tick 2000500003 []) (aged (2 ^ 60 - 4) (up_to 585)) ≡ to_tick (Released 0) [])
-    × (reply (Call.tick 2000500003 []) (aged (2 ^ 60 - 3) (up_to 585)) ≡ to_tick (Unticked ClockFull) [])
-unfolding computed moves begun
-limit_answers = (refl, refl)

@@ -1,7 +1,7 @@
 -- Numbers of their own for shares on a tree of 8 levels, most of whose nodes do not stand right behind their parents: with all leaves
 -- active, with some, and behind each call that works them out anew; on the largest tree; and the floor at level 8.
 -- Assumes nothing.
-use Rattle.std.specs.Prelude.{◌≡◌, refl, true, false, List, [], ◌∷◌, ◌++◌, map, ℕ, ◌+◌, ◌-◌, ◌^◌, replicate, take, drop}
+use Rattle.std.specs.Prelude.{false, List, [], ◌∷◌, ◌++◌, map, ℕ, ◌+◌, ◌-◌, ◌^◌, replicate, take, drop}
 use Rattle.rules.specs.Numbers.{whole}
 use Rattle.rules.specs.Words.{table_from, no_node}
 use Rattle.rules.specs.Units.{abs}
@@ -12,33 +12,33 @@ use Rattle.rules.specs.Entries.{submitted, planned, weighted}
 use Rattle.rules.specs.declared.tree.Tree.{Tree}
 use Rattle.rules.specs.declared.budget.Row.{Row}
 use Rattle.rules.specs.declared.budget.Controller.{Controller}
-use Rattle.rules.specs.Bench.{computed, M, bio, tree, clock_at, saved, all_right, Case}
-use Rattle.rules.specs.Bench.Edges.{gives, star, Seen, see, all_same}
+use Rattle.rules.specs.Bench.{M, bio, tree, clock_at, saved, Case}
+use Rattle.rules.specs.Bench.Edges.{gives, star, Seen, see}
 
 -- inner nodes are 1, 3, 4, 6, 7, 9 and 10, each below the one before; leaves are 2, 5, 8, 13, 11, 15, 16 at the levels 1 to 7, and
 -- 12 and 14 at level 8
-abbrev tree8 : Tree
+abbrev pub tree8 : Tree
 tree8 =
     tree 17
     (0 ∷ 0 ∷ 1 ∷ 3 ∷ 1 ∷ 4 ∷ 6 ∷ 3 ∷ 7 ∷ 9 ∷ 6 ∷ 10 ∷ 4 ∷ 10 ∷ 7 ∷ 9 ∷ [])
     (700 ∷ 300 ∷ 500 ∷ 600 ∷ 250 ∷ 900 ∷ 800 ∷ 200 ∷ 400 ∷ 1000 ∷ 350 ∷ 150 ∷ 100 ∷ 250 ∷ 450 ∷ 30 ∷ [])
 
 -- the base shares of all places, with these leaves active
-abbrev of8 : ℕ → List ℕ
+abbrev pub of8 : ℕ → List ℕ
 of8 active = take 17 (base_shares tree8 active)
 
 -- the shares of the inner nodes, and the sums of their active children's weights
-abbrev inner8 : ℕ → List ℕ
+abbrev pub inner8 : ℕ → List ℕ
 inner8 active = map (share_of tree8 active) (1 ∷ 3 ∷ 4 ∷ 6 ∷ 7 ∷ 9 ∷ 10 ∷ [])
 
-abbrev sums8 : ℕ → List ℕ
+abbrev pub sums8 : ℕ → List ℕ
 sums8 active = map (child_sum tree8 active) (0 ∷ 1 ∷ 3 ∷ 4 ∷ 6 ∷ 7 ∷ 9 ∷ 10 ∷ [])
 
 -- the same tree with a parent and a weight at the root, which mean nothing (DECISIONS 15)
-abbrev odd8 : Tree
+abbrev pub odd8 : Tree
 odd8 = record { count = 17; parents = 16 ∷ drop 1 tree8.parents; weights = 5 ∷ drop 1 tree8.weights }
 
-pub share_numbers : List Seen
+unfoldable pub share_numbers : List Seen
 share_numbers =
     -- all leaves: no node's share comes out whole, so each level rounds once more
     see (leaves_of tree8 ∷ []) (129316 ∷ [])
@@ -63,38 +63,34 @@ share_numbers =
     ((2 ^ 64 - 2) ∷ 1 ∷ whole ∷ 536870912 ∷ [])
     ∷ []
 
-pub share_numbers_hold : all_same share_numbers ≡ true
-unfolding computed share_numbers
-share_numbers_hold = refl
-
 -- ---- behind each call that works them out anew: leaf 2 at level 1 and leaves 12 and 14 at level 8 have saved something
-abbrev rows8 : Row → Row → Row → List Row
+abbrev pub rows8 : Row → Row → Row → List Row
 rows8 two twelve fourteen = empty_row ∷ empty_row ∷ two ∷ replicate 9 empty_row ++ (twelve ∷ empty_row ∷ fourteen ∷ [])
 
-abbrev state8 : ℕ → ℕ → List ℕ → List Row → Controller
+abbrev pub state8 : ℕ → ℕ → List ℕ → List Row → Controller
 state8 active donors shares rows =
     with_books rows (fresh tree8 M 0).queues (with_sharing active donors shares (with_clock (clock_at 0 1 1 100) (fresh tree8 M 0)))
 
 -- leaves 2 and 14 are active and 2 gives; all three are, and nobody gives
-abbrev giving8 : Controller
+abbrev pub giving8 : Controller
 giving8 =
     state8 16388 4 (0 ∷ 0 ∷ 100000000 ∷ replicate 11 0 ++ (973741823 ∷ 0 ∷ 0 ∷ [])) (rows8 (saved 1000000) empty_row (saved 500000))
 
-abbrev three8 : Controller
+abbrev pub three8 : Controller
 three8 = state8 20484 no_node (base_shares tree8 20484) (rows8 (saved 1000000) (saved 700000) (saved 500000))
 
 -- leaf 12 has done nothing since the last plan, and the two others much
-abbrev busy8 : Controller
+abbrev pub busy8 : Controller
 busy8 =
     state8 20484 no_node (base_shares tree8 20484)
     (rows8 (with_usage (abs 9) (saved 1000000)) (with_accepted false (saved 700000)) (with_usage (abs 9) (saved 500000)))
 
 -- who is active, who gives, and the shares and budgets of the three
-abbrev seen8 : Controller → List ℕ
+abbrev pub seen8 : Controller → List ℕ
 seen8 c =
     c.active ∷ c.donors ∷ share_at c 2 ∷ share_at c 12 ∷ share_at c 14 ∷ (row_at c 2).budget.0 ∷ (row_at c 12).budget.0 ∷ (row_at c 14).budget.0 ∷ []
 
-pub share_calls : List Seen
+unfoldable pub share_calls : List Seen
 share_calls =
     -- leaf 12 becomes active: 2 rises to its base share, 1,000,000 x 100,000,000 / 322,122,547, and 14 falls
     see (seen8 (submitted (bio 12 0 4096) giving8).state)
@@ -109,26 +105,22 @@ share_calls =
     ∷ see (seen8 (planned busy8).state) (16388 ∷ 0 ∷ 322122547 ∷ 0 ∷ 751619276 ∷ 1000000 ∷ 0 ∷ 312499 ∷ [])
     ∷ []
 
-pub share_calls_hold : all_same share_calls ≡ true
-unfolding computed share_calls
-share_calls_hold = refl
-
 -- ---- the floor at level 8: leaf 8 has one part in 1,024 of what its parent has, which has one in 1,024 of all. One part more
 -- for a sibling of any of its nodes, and it is thin
-abbrev chain8 : ℕ → ℕ → Tree
+abbrev pub chain8 : ℕ → ℕ → Tree
 chain8 high low = tree 11 (0 ∷ 1 ∷ 2 ∷ 3 ∷ 4 ∷ 5 ∷ 6 ∷ 7 ∷ 0 ∷ 7 ∷ []) (replicate 8 1 ++ (high ∷ low ∷ []))
 
 -- the same, and the leaf is the last node
-abbrev chain8_last : ℕ → Tree
+abbrev pub chain8_last : ℕ → Tree
 chain8_last low = tree 11 (0 ∷ 1 ∷ 2 ∷ 3 ∷ 4 ∷ 5 ∷ 6 ∷ 0 ∷ 7 ∷ 7 ∷ []) (replicate 7 1 ++ (1023 ∷ low ∷ 1 ∷ []))
 
 -- 64 nodes, of which node 63 alone is too small: node 7 has one part in 70,001, all of it goes down to 62 and 63, and 63 has one
 -- part in 15 of that, 1,022
-abbrev wide8 : Tree
+abbrev pub wide8 : Tree
 wide8 =
     tree 64 (replicate 8 0 ++ table_from (λ i. i) 1 53 ++ (55 ∷ 55 ∷ [])) (replicate 6 10000 ++ (1 ∷ 10000 ∷ replicate 53 1 ++ (14 ∷ 1 ∷ [])))
 
-pub thin_at_depth : List Case
+unfoldable pub thin_at_depth : List Case
 thin_at_depth =
     gives 0 (tree_checks (chain8 1023 1023)) ∷ gives 2 (tree_checks (chain8 1024 1023)) ∷ gives 2 (tree_checks (chain8 1023 1024))
     ∷ gives 0 (weight_checks 9 1023 (chain8 1024 1023)) ∷ gives 2 (weight_checks 9 1024 (chain8 1023 1023))
@@ -138,7 +130,3 @@ thin_at_depth =
     -- the weight of an inner node without a sibling moves nothing
     ∷ gives 0 (weight_checks 4 10000 (chain8 1023 1023))
     ∷ []
-
-pub thin_at_depth_lem : all_right thin_at_depth ≡ true
-unfolding computed thin_at_depth
-thin_at_depth_lem = refl

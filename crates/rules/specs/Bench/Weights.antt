@@ -1,27 +1,27 @@
 -- Numbers of their own for another weight in flight: when it is refused, the books before and after it, what the ledger makes
 -- of it, and a trace.
 -- Assumes nothing.
-use Rattle.std.specs.Prelude.{◌≡◌, refl, true, List, [], ◌∷◌, ◌++◌, ℕ, replicate, take}
+use Rattle.std.specs.Prelude.{List, [], ◌∷◌, ◌++◌, ℕ, replicate, take}
 use Rattle.rules.specs.Words.{no_node}
 use Rattle.rules.specs.Budget.{fresh, queue_at, with_sharing, with_tree}
 use Rattle.rules.specs.Refusals.{verdict_number, weight_checks}
 use Rattle.rules.specs.Entries.{slowest, weighted}
-use Rattle.rules.specs.Replay.{within, stepped, replay}
-use Rattle.rules.specs.Ledger.{Call, cost_waiting, cost_of_first, cost_on, released_at, repaid_at, forgiven_at, accepted, issued, released, repaid, forgiven, generated}
+use Rattle.rules.specs.Replay.{within, stepped}
+use Rattle.rules.specs.Ledger.{Call}
 use Rattle.rules.specs.declared.budget.Controller.{Controller}
 use Rattle.rules.specs.declared.trace.Record.TheVariants.{Node, Model as ModelOf, Start, Tick, Plan, Weight}
 use Rattle.rules.specs.declared.trace.Read.TheVariants.{Found}
 use Rattle.rules.specs.declared.replay.Phase.TheVariants.{Running}
 use Rattle.rules.specs.declared.replay.Setting.TheVariants.{Weight as SetWeight}
-use Rattle.rules.specs.Bench.{computed, bytes_of_all, B, rates_M, M, tree5, tree6, tree7, all_right, Case}
-use Rattle.rules.specs.Bench.Edges.{gives, read, Seen, see, all_same, leaf_numbers, book_numbers, queue_numbers, saved6, owes6, leaf1, leaf2, leaf3, top, heads, asked}
+use Rattle.rules.specs.Bench.{bytes_of_all, B, rates_M, M, tree5, tree6, tree7, Case}
+use Rattle.rules.specs.Bench.Edges.{gives, read, Seen, see, leaf_numbers, book_numbers, queue_numbers, saved6, owes6, leaf1, leaf2, leaf3, top, heads, asked}
 
 -- ---- when it is refused: 19 for the root and for what is not below it, before 22 for the weight, before 2 for a leaf that
 -- another one's weight makes thin; B7's tree with B8's weight is thin, and with B7's again it is not
-abbrev answered : ℕ → ℕ → Controller → ℕ
+abbrev pub answered : ℕ → ℕ → Controller → ℕ
 answered n w c = verdict_number (weighted n w c).answer
 
-pub weight_edges : List Case
+unfoldable pub weight_edges : List Case
 weight_edges =
     gives 0 (weight_checks 1 100 tree5) ∷ gives 0 (weight_checks 2 100 tree5)
     ∷ gives 19 (weight_checks 0 100 tree5) ∷ gives 19 (weight_checks 3 100 tree5) ∷ gives 19 (weight_checks 255 100 tree5)
@@ -37,22 +37,18 @@ weight_edges =
     ∷ B 0 (read (9 ∷ 1 ∷ 0 ∷ 1 ∷ []) 0) 16
     ∷ []
 
-pub weight_edges_hold : all_right weight_edges ≡ true
-unfolding computed weight_edges
-weight_edges_hold = refl
-
 -- ---- the books before and after it. In `saved6` leaf 1 takes, leaf 2 gives and leaf 3 is not active
-abbrev then : ℕ → ℕ → Controller → List ℕ
+abbrev pub then : ℕ → ℕ → Controller → List ℕ
 then n w c = book_numbers (weighted n w c).state
 
-abbrev weights_of : Controller → List ℕ
+abbrev pub weights_of : Controller → List ℕ
 weights_of c = take 4 c.tree.weights
 
 -- an inner node of B7's tree has leaf 3 below it, which is active beside leaf 2
-abbrev inner7 : Controller
+abbrev pub inner7 : Controller
 inner7 = with_sharing 12 no_node [] (fresh (tree7 1023) M 0)
 
-pub weight_books : List Seen
+unfoldable pub weight_books : List Seen
 weight_books =
     -- three quarters for leaf 1, whose share falls: its budget stays. That of leaf 2 rises: 900,000 x 200,000,000 / 268,435,456
     see (then 1 300 saved6)
@@ -85,15 +81,11 @@ weight_books =
     ∷ see (heads (Call.set (SetWeight 1 300)) owes6 1) (replicate 6 0)
     ∷ []
 
-pub weight_books_hold : all_same weight_books ≡ true
-unfolding computed weight_books saved6 owes6 accepted issued released repaid forgiven generated cost_on released_at repaid_at forgiven_at cost_of_first cost_waiting
-weight_books_hold = refl
-
 -- ---- a trace: both leaves are active at a quarter and three quarters when leaf 1 is given 900 against 300. Its 200,000 are 66,666
 -- at three quarters, where a sequential read of 20,000 costs 26,667: two fit, and the third waits. At a quarter leaf 2's read of
 -- 100,000 takes all 400,000 of the next tick. At the plan both could give and none could take, so base shares stand; the last
 -- record is cut
-pub weight_trace : List ℕ
+unfoldable pub weight_trace : List ℕ
 weight_trace =
     bytes_of_all (
     Node 0 100 ∷ Node 0 300 ∷ ModelOf (rates_M 50000) ∷ Start 0
@@ -103,7 +95,7 @@ weight_trace =
     )
     ++ (8 ∷ 1 ∷ 132 ∷ [])
 
-pub weight_output : List ℕ
+unfoldable pub weight_output : List ℕ
 weight_output =
     87 ∷ 32 ∷ 49 ∷ 10  -- W 1
     ∷ 114 ∷ 32 ∷ 49 ∷ 10  -- r 1
@@ -119,7 +111,3 @@ weight_output =
     ∷ 80 ∷ 32 ∷ 50 ∷ 32 ∷ 50 ∷ 54 ∷ 56 ∷ 52 ∷ 51 ∷ 53 ∷ 52 ∷ 53 ∷ 54 ∷ 10  -- P 2 268435456
     ∷ 82 ∷ 32 ∷ 49 ∷ 55 ∷ 10  -- R 17
     ∷ []
-
-pub weight_in_a_trace : replay weight_trace ≡ weight_output
-unfolding computed weight_trace weight_output
-weight_in_a_trace = refl

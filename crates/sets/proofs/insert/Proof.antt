@@ -1,7 +1,7 @@
 -- `sets::insert` meets its contract: the bit that is put in is a power of 2, of which the union is that of the sets.
 -- Assumes nothing.
 use borrow.Author.Rules.{rules}
-use Rattle.rules.specs.Laws.Sets.{one_shift, insert_bit}
+use Rattle.rules.proofs.Laws.Sets.{one_shift, insert_bit}
 use Rattle.sets.proofs.insert.Statement.{statement}
 use Rattle.sets.proofs.insert.Tie as tie
 

@@ -1,7 +1,7 @@
 -- `sets::remove` meets its contract: the bit that is taken out is a power of 2, of which the difference is that of the sets.
 -- Assumes nothing.
 use borrow.Author.Rules.{rules}
-use Rattle.rules.specs.Laws.Sets.{one_shift, remove_bit}
+use Rattle.rules.proofs.Laws.Sets.{one_shift, remove_bit}
 use Rattle.sets.proofs.remove.Statement.{statement}
 use Rattle.sets.proofs.remove.Tie as tie
 

@@ -2,7 +2,7 @@
 -- Assumes nothing.
 use mathlib.Core.Path.{sym, ◌∙◌}
 use borrow.Author.Rules.{rules}
-use Rattle.rules.specs.Laws.Costs.{bio_in_range_lem}
+use Rattle.rules.proofs.Laws.Costs.{bio_in_range_lem}
 use Rattle.submit.proofs.Shapes.{books, books_nothing}
 use Rattle.submit.proofs.booked.Statement.{statement}
 use Rattle.submit.proofs.booked.Tie as tie

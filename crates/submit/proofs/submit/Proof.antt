@@ -8,8 +8,8 @@ use borrow.Author.Rules.{rules}
 use Rattle.rules.specs.Numbers.{nodes_most}
 use Rattle.rules.specs.Budget.{queue_at, put_leaf, pushed, rebased}
 use Rattle.rules.specs.Invariant.{Sound}
-use Rattle.rules.specs.Laws.Refusals.{submit_on_paper}
-use Rattle.rules.specs.Laws.Resharing.{active_with}
+use Rattle.rules.proofs.Laws.Refusals.{submit_on_paper}
+use Rattle.rules.proofs.Laws.Resharing.{active_with}
 use Rattle.submit.specs.OnLeaf.{queued}
 use Rattle.submit.specs.Decision.{view_at, decision}
 use Rattle.submit.proofs.Decisions.{place_inside, queue_read, seen, can_decide, Carries, joining, as_it_was, returning, staying, can_join, can_return, at_once, woken_active, woken_sound, once_woken}

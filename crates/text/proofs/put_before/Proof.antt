@@ -3,7 +3,7 @@
 use native.Mathlib.Omega.{arith}
 use borrow.Author.Rules.{rules}
 use Rattle.rules.specs.Buffers.{Stands}
-use Rattle.rules.specs.Laws.Buffers.{stands_more}
+use Rattle.rules.proofs.Laws.Buffers.{stands_more}
 use Rattle.text.specs.Text.{record_text}
 use Rattle.text.proofs.put_before.Statement.{statement}
 use Rattle.text.proofs.put_before.Tie as tie

@@ -6,7 +6,7 @@ use native.Mathlib.Omega.{arith}
 use lib.ListN.{set}
 use borrow.Author.Rules.{rules}
 use Rattle.rules.specs.Buffers.{Stands, put_back}
-use Rattle.rules.specs.Laws.Buffers.{stands_kept, stands_more, stands_byte}
+use Rattle.rules.proofs.Laws.Buffers.{stands_kept, stands_more, stands_byte}
 use Rattle.text.specs.Words.{bytes}
 use Rattle.text.specs.Text.{worded, record_text}
 use Rattle.text.specs.Lines.{differs_line, differs_room}

@@ -7,8 +7,8 @@ use lib.ListN.{set, length-set}
 use borrow.Author.Rules.{rules}
 use Rattle.rules.specs.Replay.{digits}
 use Rattle.rules.specs.Buffers.{Stands, put_back}
-use Rattle.rules.specs.Laws.Buffers.{stands_kept, stands_rest, stands_more, stands_first}
-use Rattle.rules.specs.Laws.Lines.{digits_room}
+use Rattle.rules.proofs.Laws.Buffers.{stands_kept, stands_rest, stands_more, stands_first}
+use Rattle.rules.proofs.Laws.Lines.{digits_room}
 use Rattle.text.proofs.put_field.Statement.{statement}
 use Rattle.text.proofs.put_field.Tie as tie
 

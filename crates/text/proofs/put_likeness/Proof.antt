@@ -2,7 +2,7 @@
 -- Assumes nothing.
 use native.Mathlib.Omega.{arith}
 use borrow.Author.Rules.{rules}
-use Rattle.rules.specs.Laws.Buffers.{stands_none}
+use Rattle.rules.proofs.Laws.Buffers.{stands_none}
 use Rattle.text.specs.Lines.{likeness_line}
 use Rattle.text.proofs.put_likeness.Statement.{statement}
 use Rattle.text.proofs.put_likeness.Tie as tie

@@ -3,7 +3,7 @@
 use native.Mathlib.Omega.{arith}
 use borrow.Author.Rules.{rules}
 use Rattle.rules.specs.Buffers.{Stands}
-use Rattle.rules.specs.Laws.Buffers.{stands_byte}
+use Rattle.rules.proofs.Laws.Buffers.{stands_byte}
 use Rattle.text.specs.Text.{worded}
 use Rattle.text.proofs.put_line.Statement.{statement}
 use Rattle.text.proofs.put_line.Tie as tie

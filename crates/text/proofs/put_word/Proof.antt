@@ -9,7 +9,7 @@ use lib.ListN.{length, take, get_or, set}
 use lib.Seq.{take-suc, take_all}
 use borrow.Author.Rules.{rules}
 use Rattle.rules.specs.Buffers.{Written, Stands}
-use Rattle.rules.specs.Laws.Buffers.{stands_none, stands_kept, stands_in, stands_byte}
+use Rattle.rules.proofs.Laws.Buffers.{stands_none, stands_kept, stands_in, stands_byte}
 use Rattle.text.proofs.put_word.Statement.{statement}
 use Rattle.text.proofs.put_word.Tie as tie
 

@@ -4,7 +4,7 @@ use native.Mathlib.Omega.{arith}
 use borrow.Author.Rules.{rules}
 use Rattle.rules.specs.Replay.{numbers}
 use Rattle.rules.specs.Buffers.{Stands}
-use Rattle.rules.specs.Laws.Buffers.{stands_more}
+use Rattle.rules.proofs.Laws.Buffers.{stands_more}
 use Rattle.text.proofs.put_worded.Statement.{statement}
 use Rattle.text.proofs.put_worded.Tie as tie
 

@@ -7,8 +7,8 @@ use native.Mathlib.Omega.{arith}
 use borrow.Author.Rules.{rules}
 use lib.ListN.{length}
 use Rattle.rules.specs.Refusals.{first_of, tick_checks}
-use Rattle.rules.specs.Laws.Passes.{tick_passes}
-use Rattle.rules.specs.Laws.Refusals.{tick_on_paper}
+use Rattle.rules.proofs.Laws.Passes.{tick_passes}
+use Rattle.rules.proofs.Laws.Refusals.{tick_on_paper}
 use Rattle.rules.specs.declared.refusals.Verdict.TheVariants.{Accepted}
 use Rattle.tick.proofs.Answers.{Counted, none-counted, one-counted, count_small, all-counted, clock-refuses, too-few-places, enough-places, refuses, accepts}
 use Rattle.tick.proofs.tick.Statement.{statement}

@@ -11,9 +11,9 @@ use Rattle.rules.specs.declared.tree.Tree.{Tree}
 use Rattle.rules.specs.declared.tree.Fault.{Fault}
 use Rattle.rules.specs.declared.refusals.Refusal.TheVariants.{BadTree}
 use Rattle.rules.specs.declared.refusals.Verdict.TheVariants.{Refused}
-use Rattle.rules.specs.Laws.Trees.{sound_tree}
-use Rattle.rules.specs.Laws.Refusals.{check_on_paper}
-use Rattle.rules.specs.Laws.TreeVerdicts.{sound_when, bad_tree, thin_tree, fine_tree}
+use Rattle.rules.proofs.Laws.Trees.{sound_tree}
+use Rattle.rules.proofs.Laws.Refusals.{check_on_paper}
+use Rattle.rules.proofs.Laws.TreeVerdicts.{sound_when, bad_tree, thin_tree, fine_tree}
 use Rattle.tree.proofs.check.Statement.{statement}
 use Rattle.tree.proofs.check.Tie as tie
 

@@ -1,7 +1,7 @@
 -- `calls::plan` meets its contract: a plan keeps a sound state.
 -- Assumes nothing.
 use borrow.Author.Rules.{rules}
-use Rattle.rules.specs.Laws.Plans.{planned_keeps}
+use Rattle.rules.proofs.Laws.Plans.{planned_keeps}
 use Rattle.asks.proofs.calls.plan.Statement.{statement}
 use Rattle.asks.proofs.calls.plan.Tie as tie
 

@@ -1,7 +1,7 @@
 -- `calls::submit` meets its contract: a submission keeps a sound state.
 -- Assumes nothing.
 use borrow.Author.Rules.{rules}
-use Rattle.rules.specs.Laws.Submits.{submit_keeps}
+use Rattle.rules.proofs.Laws.Submits.{submit_keeps}
 use Rattle.asks.proofs.calls.submit.Statement.{statement}
 use Rattle.asks.proofs.calls.submit.Tie as tie
 

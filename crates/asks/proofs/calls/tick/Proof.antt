@@ -1,7 +1,7 @@
 -- `calls::tick` meets its contract: a tick keeps a sound state.
 -- Assumes nothing.
 use borrow.Author.Rules.{rules}
-use Rattle.rules.specs.Laws.Ticks.{ticked_keeps}
+use Rattle.rules.proofs.Laws.Ticks.{ticked_keeps}
 use Rattle.asks.proofs.calls.tick.Statement.{statement}
 use Rattle.asks.proofs.calls.tick.Tie as tie
 

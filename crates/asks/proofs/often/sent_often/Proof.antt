@@ -2,7 +2,7 @@
 -- Assumes nothing.
 use borrow.Author.Rules.{rules}
 use Rattle.rules.specs.Invariant.{Sound}
-use Rattle.rules.specs.Laws.Submits.{submit_keeps}
+use Rattle.rules.proofs.Laws.Submits.{submit_keeps}
 use Rattle.asks.proofs.often.sent_often.Statement.{statement}
 use Rattle.asks.proofs.often.sent_often.Tie as tie
 

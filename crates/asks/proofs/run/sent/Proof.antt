@@ -1,7 +1,7 @@
 -- `run::sent` meets its contract: a submission keeps a sound state, and a question leaves it.
 -- Assumes nothing.
 use borrow.Author.Rules.{rules}
-use Rattle.rules.specs.Laws.Submits.{submit_keeps}
+use Rattle.rules.proofs.Laws.Submits.{submit_keeps}
 use Rattle.asks.proofs.run.sent.Statement.{statement}
 use Rattle.asks.proofs.run.sent.Tie as tie
 

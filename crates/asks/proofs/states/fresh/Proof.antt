@@ -1,7 +1,7 @@
 -- `states::fresh` meets its contract: start gives a sound state.
 -- Assumes nothing.
 use borrow.Author.Rules.{rules}
-use Rattle.rules.specs.Laws.Starts.{start_gives}
+use Rattle.rules.proofs.Laws.Starts.{start_gives}
 use Rattle.asks.proofs.states.fresh.Statement.{statement}
 use Rattle.asks.proofs.states.fresh.Tie as tie
 

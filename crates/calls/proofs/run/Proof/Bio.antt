@@ -11,7 +11,7 @@ use Rattle.rules.specs.Budget.{queue_at, with_sharing, with_books, put_leaf, pus
 use Rattle.rules.specs.Entries.{submitted}
 use Rattle.rules.specs.Invariant.{Sound}
 use Rattle.rules.specs.Replay.{answer_line}
-use Rattle.rules.specs.Laws.Resharing.{active_with}
+use Rattle.rules.proofs.Laws.Resharing.{active_with}
 use Rattle.rules.specs.declared.cost.Bio.{Bio}
 use Rattle.rules.specs.declared.budget.Controller.{Controller}
 use Rattle.rules.specs.declared.budget.Submitted.{Submitted}

@@ -12,9 +12,9 @@ use Rattle.rules.specs.Entries.{ticked, lent_of}
 use Rattle.rules.specs.Invariant.{Sound, TickPasses}
 use Rattle.rules.specs.Replay.{tick_lines}
 use Rattle.rules.specs.Buffers.{rest_of, put_back}
-use Rattle.rules.specs.Laws.Buffers.{stands_left, stands_kept}
-use Rattle.rules.specs.Laws.Passes.{tick_passes}
-use Rattle.rules.specs.Laws.States.{waiting_small}
+use Rattle.rules.proofs.Laws.Buffers.{stands_left, stands_kept}
+use Rattle.rules.proofs.Laws.Passes.{tick_passes}
+use Rattle.rules.proofs.Laws.States.{waiting_small}
 use Rattle.rules.specs.declared.budget.Controller.{Controller}
 use Rattle.rules.specs.declared.budget.Ticked.{Ticked}
 use Rattle.rules.specs.declared.refusals.Verdict.TheVariants.{Accepted}

@@ -11,7 +11,7 @@ use mir.Val.{Fits}
 use Rattle.rules.specs.Numbers.{line_room}
 use Rattle.rules.specs.Chunks.{is_call}
 use Rattle.rules.specs.Buffers.{Written, rest_of, put_back}
-use Rattle.rules.specs.Laws.Buffers.{stands_left, stands_fits}
+use Rattle.rules.proofs.Laws.Buffers.{stands_left, stands_fits}
 use Rattle.rules.specs.declared.budget.Controller.{Controller}
 use Rattle.rules.specs.declared.replay.Call.{Call}
 use Rattle.tick.proofs.Going.{Walking}

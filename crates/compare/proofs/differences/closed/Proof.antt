@@ -2,7 +2,7 @@
 -- Assumes nothing.
 use Rattle.std.proofs.Common.{◌≡◌, ℕ, ◌≤◌, Bool, true, false, not, ltb, List, sym, refl, ap, ◌∙◌, rules, ltb-false}
 use borrow.Author.Tests.{not-true, not-false}
-use Rattle.rules.specs.Laws.Bools.{and_left, and_right}
+use Rattle.rules.proofs.Laws.Bools.{and_left, and_right}
 use Rattle.comparison.specs.Compare.{likeness_by}
 use Rattle.comparison.specs.declared.Likeness.{Likeness}
 use Rattle.comparison.specs.declared.Step.{Step}

@@ -1,7 +1,7 @@
 -- `compare::side::refill` meets its contract: what is read begins where the sum of the places says, and fits the buffer.
 -- Assumes nothing.
 use Rattle.std.proofs.Common.{refl, rules}
-use Rattle.rules.specs.Laws.Bools.{true_not_false}
+use Rattle.rules.proofs.Laws.Bools.{true_not_false}
 use Rattle.compare.proofs.side.refill.Statement.{statement}
 use Rattle.compare.proofs.side.refill.Tie as tie
 

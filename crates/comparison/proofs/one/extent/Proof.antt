@@ -3,7 +3,7 @@
 use mathlib.Core.Path.{sym, ◌∙◌}
 use borrow.Author.Tests.{not-true, not-false}
 use borrow.Author.Rules.{rules}
-use Rattle.rules.specs.Laws.Trace.{beyond_is_cut, end_at_the_end, unknown_is_refused}
+use Rattle.rules.proofs.Laws.Trace.{beyond_is_cut, end_at_the_end, unknown_is_refused}
 use Rattle.comparison.specs.Laws.Steps.{extent_of_lem, whole_extent, cut_extent}
 use Rattle.comparison.proofs.one.extent.Statement.{statement}
 use Rattle.comparison.proofs.one.extent.Tie as tie

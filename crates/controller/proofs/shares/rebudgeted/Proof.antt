@@ -8,7 +8,7 @@ use borrow.Author.Rules.{rules}
 use lib.ListN.{length, get_or, set}
 use Rattle.rules.specs.Words.{table}
 use Rattle.rules.specs.Budget.{empty_row, with_budget, rebudget}
-use Rattle.rules.specs.Laws.Sweeps.{swept, place_here, place_put, places_done}
+use Rattle.rules.proofs.Laws.Sweeps.{swept, place_here, place_put, places_done}
 use Rattle.rules.specs.declared.budget.Row.{Row}
 use Rattle.rules.specs.declared.units.Virt.{Virt}
 use Rattle.controller.proofs.shares.rebudgeted.Statement.{statement}

@@ -3,9 +3,9 @@
 use mathlib.Core.Path.{◌≡◌, sym, ◌∙◌}
 use borrow.Author.Rules.{rules}
 use Rattle.rules.specs.Entries.{tree_verdict}
-use Rattle.rules.specs.Laws.Refusals.{both, start_on_paper}
-use Rattle.rules.specs.Laws.Trees.{sound_tree}
-use Rattle.rules.specs.Laws.TreeVerdicts.{accepted_exactly_when}
+use Rattle.rules.proofs.Laws.Refusals.{both, start_on_paper}
+use Rattle.rules.proofs.Laws.Trees.{sound_tree}
+use Rattle.rules.proofs.Laws.TreeVerdicts.{accepted_exactly_when}
 use Rattle.rules.specs.declared.refusals.Verdict.TheVariants.{Accepted}
 use Rattle.controller.proofs.Begin.{tree_refuses, rates_refuse, start_accepts}
 use Rattle.controller.proofs.start.start.Statement.{statement}

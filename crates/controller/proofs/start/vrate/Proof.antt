@@ -1,7 +1,7 @@
 -- `vrate` meets its contract: the clock goes at the new rate where its verdict is to accept it.
 -- Assumes nothing.
 use borrow.Author.Rules.{rules}
-use Rattle.rules.specs.Laws.Refusals.{both, vrate_on_paper}
+use Rattle.rules.proofs.Laws.Refusals.{both, vrate_on_paper}
 use Rattle.controller.proofs.Vrates.{rate_set, rate_kept}
 use Rattle.controller.proofs.start.vrate.Statement.{statement}
 use Rattle.controller.proofs.start.vrate.Tie as tie

@@ -1,7 +1,7 @@
 -- `weight` meets its contract: base shares of the tree with the weight are put in where its verdict is to accept it.
 -- Assumes nothing.
 use borrow.Author.Rules.{rules}
-use Rattle.rules.specs.Laws.Refusals.{both, weight_on_paper}
+use Rattle.rules.proofs.Laws.Refusals.{both, weight_on_paper}
 use Rattle.controller.proofs.Weighing.{weight_inside, weight_anew, weight_set, weight_kept}
 use Rattle.controller.proofs.weights.weight.Statement.{statement}
 use Rattle.controller.proofs.weights.weight.Tie as tie

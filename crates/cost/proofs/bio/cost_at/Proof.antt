@@ -11,7 +11,7 @@ use Rattle.rules.specs.Numbers.{page_bytes, bytes_most}
 use Rattle.rules.specs.Units.{abs, ceil_of}
 use Rattle.rules.specs.Cost.{cost_at}
 use Rattle.rules.specs.Invariant.{SoundPrice}
-use Rattle.rules.specs.Laws.Costs.{pages_most, base_cost_most, page_costs_most}
+use Rattle.rules.proofs.Laws.Costs.{pages_most, base_cost_most, page_costs_most}
 use Rattle.rules.specs.declared.units.Abs.{Abs}
 use Rattle.rules.specs.declared.cost.Price.{Price}
 use Rattle.cost.proofs.bio.cost_at.Statement.{statement}

@@ -4,7 +4,7 @@ use borrow.Author.Rules.{rules}
 use mathlib.Core.Path.{◌≡◌, sym, ◌∙◌}
 use mathlib.Core.Bool.{Bool, true, false, cond}
 use Rattle.rules.specs.Cost.{is_write, is_flush, is_sequential, cost_at, cost_of}
-use Rattle.rules.specs.Laws.Costs.{price_of_bio_sound}
+use Rattle.rules.proofs.Laws.Costs.{price_of_bio_sound}
 use Rattle.rules.specs.declared.units.Abs.{Abs}
 use Rattle.rules.specs.declared.cost.Price.{Price}
 use Rattle.rules.specs.declared.cost.Model.{Model}

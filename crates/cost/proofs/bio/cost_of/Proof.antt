@@ -7,9 +7,9 @@ use Prim.Native.Nat.{◌≤◌, ◌<◌}
 use Rattle.rules.specs.Cost.{bio_in_range, cost_of}
 use Rattle.rules.specs.Numbers.{cost_most}
 use Rattle.rules.specs.Entries.{costing}
-use Rattle.rules.specs.Laws.Bools.{exactly_not}
-use Rattle.rules.specs.Laws.Costs.{bio_in_range_lem, bytes_most, costing_refuses_the_range_exactly_when, costing_refuses_the_cost_exactly_when, costing_costs_exactly_when}
-use Rattle.rules.specs.Laws.Refusals.{cost_on_paper}
+use Rattle.rules.proofs.Laws.Bools.{exactly_not}
+use Rattle.rules.proofs.Laws.Costs.{bio_in_range_lem, bytes_most, costing_refuses_the_range_exactly_when, costing_refuses_the_cost_exactly_when, costing_costs_exactly_when}
+use Rattle.rules.proofs.Laws.Refusals.{cost_on_paper}
 use Rattle.rules.specs.declared.units.Abs.{Abs}
 use Rattle.rules.specs.declared.cost.Model.{Model}
 use Rattle.rules.specs.declared.cost.Bio.{Bio}

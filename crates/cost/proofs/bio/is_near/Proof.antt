@@ -9,7 +9,7 @@ use lib.Dec.{leb}
 use borrow.Author.Tests.{leb-true, le-leb}
 use Rattle.rules.specs.Numbers.{near_most}
 use Rattle.rules.specs.Cost.{is_near}
-use Rattle.rules.specs.Laws.Bools.{same_test}
+use Rattle.rules.proofs.Laws.Bools.{same_test}
 use Rattle.cost.proofs.bio.is_near.Statement.{statement}
 use Rattle.cost.proofs.bio.is_near.Tie as tie
 

@@ -5,8 +5,8 @@ use mathlib.Core.Path.{sym, ◌∙◌}
 use Rattle.rules.specs.Cost.{priced}
 use Rattle.rules.specs.Refusals.{rate_checks}
 use Rattle.rules.specs.Entries.{pricing, pricing_by}
-use Rattle.rules.specs.Laws.Costs.{rates_in_range_lem}
-use Rattle.rules.specs.Laws.Refusals.{both, price_on_paper}
+use Rattle.rules.proofs.Laws.Costs.{rates_in_range_lem}
+use Rattle.rules.proofs.Laws.Refusals.{both, price_on_paper}
 use Rattle.cost.proofs.pricing.price.Statement.{statement}
 use Rattle.cost.proofs.pricing.price.Tie as tie
 

@@ -5,7 +5,7 @@ use Prim.Native.Nat.{ℕ, ◌+◌, ◌/◌, ◌≤◌, ◌<◌}
 use native.Mathlib.Omega.{arith}
 use Rattle.rules.specs.Numbers.{whole, share_floor}
 use Rattle.rules.specs.Plan.{used_share, target_of}
-use Rattle.rules.specs.Laws.Units.{ceil_least}
+use Rattle.rules.proofs.Laws.Units.{ceil_least}
 use Rattle.rules.specs.declared.units.Abs.{Abs}
 use Rattle.rules.specs.declared.units.Virt.{Virt}
 use borrow.Author.Rules.{rules}

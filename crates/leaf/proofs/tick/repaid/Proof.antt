@@ -8,7 +8,7 @@ use Rattle.rules.specs.Budget.{owes, charged, with_debt}
 use Rattle.rules.specs.Tick.{repayment, repaid}
 use Rattle.rules.specs.declared.units.Abs.{Abs}
 use Rattle.rules.specs.declared.budget.Row.{Row}
-use Rattle.rules.specs.Laws.Rows.{repayment_most}
+use Rattle.rules.proofs.Laws.Rows.{repayment_most}
 use Rattle.leaf.specs.Fit.{repayment_is_payable}
 use borrow.Author.Rules.{rules}
 use Rattle.leaf.proofs.tick.repaid.Statement.{statement}

@@ -1,7 +1,7 @@
 -- `calls::start` meets its contract: start gives a sound state, accepted or refused.
 -- Assumes nothing.
 use borrow.Author.Rules.{rules}
-use Rattle.rules.specs.Laws.Starts.{start_gives}
+use Rattle.rules.proofs.Laws.Starts.{start_gives}
 use Rattle.limits.proofs.calls.start.Statement.{statement}
 use Rattle.limits.proofs.calls.start.Tie as tie
 

@@ -1,7 +1,7 @@
 -- `calls::vrate` meets its contract: vrate keeps a sound state, accepted or refused.
 -- Assumes nothing.
 use borrow.Author.Rules.{rules}
-use Rattle.rules.specs.Laws.Starts.{vrate_keeps}
+use Rattle.rules.proofs.Laws.Starts.{vrate_keeps}
 use Rattle.limits.proofs.calls.vrate.Statement.{statement}
 use Rattle.limits.proofs.calls.vrate.Tie as tie
 

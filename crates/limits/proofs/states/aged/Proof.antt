@@ -1,7 +1,7 @@
 -- `states::aged` meets its contract: the state is the same but for its clock, and sound at any age up to the limit.
 -- Assumes nothing.
 use mathlib.Core.Path.{refl}
-use Rattle.rules.specs.Demand3.Sentences.{aged_is_sound}
+use Rattle.rules.proofs.Demand3.Sentences.{aged_is_sound}
 use Rattle.limits.proofs.states.aged.Statement.{statement}
 use Rattle.limits.proofs.states.aged.Tie as tie
 

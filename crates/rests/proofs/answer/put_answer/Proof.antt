@@ -6,7 +6,7 @@ use Prim.Native.Nat.{ℕ}
 use native.Mathlib.Omega.{arith}
 use lib.ListN.{length}
 use Rattle.rules.specs.Buffers.{Written, Stands}
-use Rattle.rules.specs.Laws.Buffers.{stands_more}
+use Rattle.rules.proofs.Laws.Buffers.{stands_more}
 use Rattle.comparison.specs.Compare.{compared, rest_of}
 use Rattle.comparison.specs.declared.Comparison.{Comparison}
 use Rattle.text.specs.Lines.{rest_length_line}

@@ -2,7 +2,7 @@
 -- Assumes nothing.
 use native.Mathlib.Omega.{arith}
 use Rattle.rules.specs.Buffers.{Stands}
-use Rattle.rules.specs.Laws.Buffers.{stands_byte}
+use Rattle.rules.proofs.Laws.Buffers.{stands_byte}
 use Rattle.text.specs.Text.{record_text}
 use borrow.Author.Rules.{rules}
 use Rattle.rests.proofs.answer.put_line.Statement.{statement}

@@ -2,7 +2,7 @@
 -- Assumes nothing.
 use native.Mathlib.Omega.{arith}
 use Rattle.rules.specs.Buffers.{Stands}
-use Rattle.rules.specs.Laws.Buffers.{stands_more}
+use Rattle.rules.proofs.Laws.Buffers.{stands_more}
 use Rattle.text.specs.Lines.{difference_line, ends_line, likeness_line}
 use Rattle.rests.specs.Answer.{told_lines}
 use borrow.Author.Rules.{rules}

@@ -9,8 +9,8 @@ use native.Mathlib.Omega.{arith}
 use lib.ListN.{length}
 use borrow.Author.Rules.{rules}
 use Rattle.rules.specs.Trace.{behind, read_at}
-use Rattle.rules.specs.Laws.Bools.{never, true_not_false}
-use Rattle.rules.specs.Laws.Trace.{end_at_the_end, found_only_whole}
+use Rattle.rules.proofs.Laws.Bools.{never, true_not_false}
+use Rattle.rules.proofs.Laws.Trace.{end_at_the_end, found_only_whole}
 use Rattle.rules.specs.declared.trace.Record.{Record}
 use Rattle.rules.specs.declared.trace.Read.{Read}
 use Rattle.rules.specs.declared.trace.Read.TheVariants.{Found, End, Refused}

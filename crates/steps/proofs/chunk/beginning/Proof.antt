@@ -6,7 +6,7 @@ use Rattle.rules.specs.Refusals.{start_checks, tree_checks}
 use Rattle.rules.specs.Entries.{slowest, started, started_by}
 use Rattle.rules.specs.Replay.{within, root_tree, beginning}
 use Rattle.rules.specs.Invariant.{Playing}
-use Rattle.rules.specs.Laws.Replays.{beginning_plays}
+use Rattle.rules.proofs.Laws.Replays.{beginning_plays}
 use Rattle.rules.specs.declared.budget.Controller.{Controller}
 use Rattle.rules.specs.declared.budget.Outcome.{Outcome}
 use Rattle.rules.specs.declared.replay.Phase.TheVariants.{Setup}

@@ -9,7 +9,7 @@ use lib.ListN.{length, take, drop, set, get_or, length-drop}
 use lib.Seq.{take-suc, get_or-drop, get_or-append-add}
 use borrow.Author.Rules.{rules}
 use Rattle.rules.specs.Buffers.{Stands}
-use Rattle.rules.specs.Laws.Buffers.{stands_none, stands_kept, stands_byte}
+use Rattle.rules.proofs.Laws.Buffers.{stands_none, stands_kept, stands_byte}
 use Rattle.steps.proofs.chunk.carry.Statement.{statement}
 use Rattle.steps.proofs.chunk.carry.Tie as tie
 

@@ -9,7 +9,7 @@ use borrow.Author.Rules.{rules}
 use borrow.Author.Tests.{not-true, not-false}
 use Rattle.rules.specs.Replay.{read_step}
 use Rattle.rules.specs.Chunks.{halts, run_from}
-use Rattle.rules.specs.Laws.Buffers.{stands_left, stands_kept, stands_fits}
+use Rattle.rules.proofs.Laws.Buffers.{stands_left, stands_kept, stands_fits}
 use Rattle.steps.proofs.Feeding.{Feeding, left, begun, asks_little, steps_on, falls, run_steps, run_falls, feeds}
 use Rattle.steps.proofs.Records.{no_run}
 use Rattle.steps.proofs.chunk.feed.Statement.{statement}

@@ -9,8 +9,8 @@ use borrow.Author.Rules.{rules}
 use Rattle.rules.specs.Replay.{beginning, replay}
 use Rattle.rules.specs.Chunks.{fed, whole_part, printed_if, whole}
 use Rattle.rules.specs.Buffers.{Written}
-use Rattle.rules.specs.Laws.Chunks.{over_is_whole}
-use Rattle.rules.specs.Laws.Bools.{never}
+use Rattle.rules.proofs.Laws.Chunks.{over_is_whole}
+use Rattle.rules.proofs.Laws.Bools.{never}
 use Rattle.rules.specs.declared.replay.Replay.{Replay}
 use Rattle.rules.specs.declared.replay.Pause.{Pause}
 use Rattle.rules.specs.declared.replay.Pause.TheVariants.{Over, Bytes, Room}

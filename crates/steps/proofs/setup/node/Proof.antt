@@ -3,7 +3,7 @@
 use mathlib.Core.Path.{sym, ◌∙◌}
 use native.Mathlib.Omega.{arith}
 use borrow.Author.Rules.{rules}
-use Rattle.rules.specs.Laws.Replays.{node_climbs}
+use Rattle.rules.proofs.Laws.Replays.{node_climbs}
 use Rattle.steps.proofs.Records.{same_step, no_bytes, node_too_many, node_refused, node_accepted}
 use Rattle.steps.proofs.setup.node.Statement.{statement}
 use Rattle.steps.proofs.setup.node.Tie as tie

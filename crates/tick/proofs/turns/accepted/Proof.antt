@@ -4,7 +4,7 @@
 use mathlib.Core.Logic.{⊎_elim}
 use native.Mathlib.Omega.{arith}
 use borrow.Author.Rules.{rules}
-use Rattle.rules.specs.Laws.Buffers.{stands_kept, stands_left}
+use Rattle.rules.proofs.Laws.Buffers.{stands_kept, stands_left}
 use Rattle.sets.specs.Visit.{less_left}
 use Rattle.tick.proofs.Clocks.{grown_small}
 use Rattle.tick.proofs.Going.{Walking, same_walking, passing_is_near, begins, row_fits, rests, release_fits, count_fits, goes_on, clock_near, ends}

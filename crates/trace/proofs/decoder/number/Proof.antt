@@ -9,7 +9,7 @@ use lib.Dec.{lit<}
 use lib.ListN.{length, get_or, take, drop}
 use borrow.Author.Rules.{rules}
 use Rattle.rules.specs.Trace.{number_of}
-use Rattle.rules.specs.Laws.Trace.{number_more}
+use Rattle.rules.proofs.Laws.Trace.{number_more}
 use Rattle.trace.proofs.decoder.number.Statement.{statement}
 use Rattle.trace.proofs.decoder.number.Tie as tie
 

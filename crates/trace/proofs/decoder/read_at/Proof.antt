@@ -8,7 +8,7 @@ use native.Mathlib.Omega.{arith}
 use lib.ListN.{length, get_or, drop}
 use borrow.Author.Tests.{not-true, not-false}
 use Rattle.rules.specs.Trace.{is_kind, layout, total, record_of, fields_from, behind, read_at}
-use Rattle.rules.specs.Laws.Trace.{beyond_is_cut, end_at_the_end, unknown_is_refused, short_is_cut, whole_is_found}
+use Rattle.rules.proofs.Laws.Trace.{beyond_is_cut, end_at_the_end, unknown_is_refused, short_is_cut, whole_is_found}
 use Rattle.trace.proofs.Papers.{with_number}
 use Rattle.rules.specs.declared.refusals.Refusal.TheVariants.{CutShort}
 use Rattle.rules.specs.declared.trace.Record.{Record}

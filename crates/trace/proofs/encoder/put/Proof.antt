@@ -8,7 +8,7 @@ use native.Mathlib.Omega.{arith}
 use lib.ListN.{length, set}
 use borrow.Author.Rules.{rules}
 use Rattle.rules.specs.Trace.{bytes_of}
-use Rattle.rules.specs.Laws.Trace.{length_bytes}
+use Rattle.rules.proofs.Laws.Trace.{length_bytes}
 use Rattle.trace.specs.Laid.{laid}
 use Rattle.trace.proofs.Laid.{laid_none, laid_length, laid_byte, next_quotient}
 use Rattle.trace.proofs.encoder.put.Statement.{statement}

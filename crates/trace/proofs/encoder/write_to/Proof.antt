@@ -4,8 +4,8 @@ use mathlib.Core.Path.{◌≡◌}
 use Prim.Native.Nat.{◌+◌}
 use native.Mathlib.Omega.{arith}
 use Rattle.rules.specs.Trace.{layout, total, kind_of}
-use Rattle.rules.specs.Laws.Trace.{kind_known}
-use Rattle.rules.specs.Laws.Refusals.{write_on_paper}
+use Rattle.rules.proofs.Laws.Trace.{kind_known}
+use Rattle.rules.proofs.Laws.Refusals.{write_on_paper}
 use Rattle.trace.proofs.Written.{numbers_fit, body_most, too_short, body_room, kept, written}
 use borrow.Author.Rules.{rules}
 use Rattle.trace.proofs.encoder.write_to.Statement.{statement}

@@ -9,7 +9,7 @@ use borrow.Author.Rules.{rules}
 use borrow.Fn.Kinds.{In}
 use borrow.Fn.PlainCycle.{Measures, is, falls, and}
 use Rattle.rules.specs.Tree.{level}
-use Rattle.rules.specs.Laws.Trees.{level_root}
+use Rattle.rules.proofs.Laws.Trees.{level_root}
 use Rattle.tree.specs.View.{tree_of, Climbs}
 use Rattle.tree.proofs.View.{level_at}
 use Rattle.tree.proofs.faults.level_of.Reads as level-of

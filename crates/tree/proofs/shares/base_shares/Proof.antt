@@ -15,10 +15,10 @@ use borrow.Author.Tests.{eqb-true, eqb-false}
 use Rattle.rules.specs.Words.{has, set_of, table}
 use Rattle.rules.specs.Tree.{is_active, share_of, base_share, base_shares}
 use Rattle.rules.specs.declared.tree.Tree.{Tree}
-use Rattle.rules.specs.Laws.Bools.{true_not_false, is_false}
-use Rattle.rules.specs.Laws.Sweeps.{swept, place_put, place_skip, places_rest}
-use Rattle.rules.specs.Laws.Trees.{no_root_within, leaf_last}
-use Rattle.rules.specs.Laws.Shares.{no_base_share}
+use Rattle.rules.proofs.Laws.Bools.{true_not_false, is_false}
+use Rattle.rules.proofs.Laws.Sweeps.{swept, place_put, place_skip, places_rest}
+use Rattle.rules.proofs.Laws.Trees.{no_root_within, leaf_last}
+use Rattle.rules.proofs.Laws.Shares.{no_base_share}
 use Rattle.tree.specs.View.{child_sum_in, share_among}
 use Rattle.tree.proofs.View.{last_at}
 use Rattle.tree.proofs.Lit.{lit_here, root_share, Child, parent_asks, parent_inside, share_fits, some_weight, share_stepped, share_most}

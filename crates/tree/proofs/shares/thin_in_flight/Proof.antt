@@ -9,8 +9,8 @@ use borrow.Author.Rules.{rules}
 use Rattle.rules.specs.Words.{has}
 use Rattle.rules.specs.Tree.{leaves_of, share_of}
 use Rattle.rules.specs.declared.tree.Tree.{Tree}
-use Rattle.rules.specs.Laws.Shares.{base_share_is}
-use Rattle.rules.specs.Laws.Resharing.{base_shares_each}
+use Rattle.rules.proofs.Laws.Shares.{base_share_is}
+use Rattle.rules.proofs.Laws.Resharing.{base_shares_each}
 use Rattle.sets.specs.Visit.{LeftOf, all_left, visited, fewer_left}
 use Rattle.tree.proofs.View.{sound_climbs}
 use Rattle.tree.proofs.Leaves.{Fair, leaves_only, leaves_fit, fair_starts, fair_next, thin_found, none_thin}

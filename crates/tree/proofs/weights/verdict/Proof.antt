@@ -9,7 +9,7 @@ use borrow.Author.Tests.{not-true, not-false}
 use Rattle.rules.specs.Tree.{weight_in_range, is_thin, is_below_root, with_weight}
 use Rattle.rules.specs.Refusals.{first_of, weight_checks}
 use Rattle.rules.specs.Invariant.{SoundTree}
-use Rattle.rules.specs.Laws.Weights.{below_root_inside, weight_keeps_sound_trees}
+use Rattle.rules.proofs.Laws.Weights.{below_root_inside, weight_keeps_sound_trees}
 use Rattle.rules.specs.declared.tree.Tree.{Tree}
 use Rattle.rules.specs.declared.tree.Fault.TheVariants.{Weight}
 use Rattle.rules.specs.declared.refusals.Refusal.TheVariants.{BadTree, ThinTree, NotBelowRoot}

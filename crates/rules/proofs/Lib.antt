@@ -1,0 +1,3 @@
+pub mod Bench
+pub mod Laws
+pub mod Demand3
