@@ -10,14 +10,8 @@ use lib.ListN.{length, get_or, take, drop}
 use borrow.Author.Rules.{rules}
 use Rattle.rules.specs.Trace.{number_of}
 use Rattle.rules.proofs.Laws.Trace.{number_more}
-use Rattle.trace.proofs.decoder.number.Statement.{statement}
-use Rattle.trace.proofs.decoder.number.Tie as tie
-
--- what n is once so many of the bytes are left
-record Taken (bytes : List ℕ) (at width left n : ℕ) : Type 0 where
-  within : left ≤ width
-  it : n ≡ number_of (take (width - left) (drop (at + left) bytes))
-  small : n < 256 ^ (width - left)
+use Rattle.trace.proofs.decoder.number.Invariants.{Taken}
+use Rattle.trace.proofs.decoder.number.Goals as goal
 
 module _ (bytes : List ℕ) (at width left n : ℕ) (some : 0 < left) (t : Taken bytes at width left n) where
   one_more : width - (left - 1) ≡ suc (width - left)
@@ -51,62 +45,24 @@ done bytes at width left n none t =
     let from : at + left ≡ at = omega arith in
     (rw (all, from) at t.it, rw all at t.small)
 
-abbrev invariant-loop : tie.invariant-loop
-invariant-loop bytes at width left₀ n₀ left n = Taken bytes at width left n
+pub loop-left-init : goal.loop-left-init
+loop-left-init c = start _ _ _
 
-abbrev decreases-loop : tie.decreases-loop
-decreases-loop bytes at width left₀ n₀ left n = left
+pub overflow_mul-n : goal.overflow_mul-n
+overflow_mul-n c = record { fits = omega (arith, fits _ _ _ _ _ c.loop-left-test.true c.loop-left.invariant c.requires.1) }
 
-loop-holds : tie.Need-loop-init invariant-loop decreases-loop
-loop-holds c = start _ _ _
-
-sub-left : tie.Need-overflow-sub-left invariant-loop decreases-loop
-sub-left c = search rules
-
-mul-n : tie.Need-overflow-mul-n invariant-loop decreases-loop
-mul-n c = record { fits = omega (arith, fits _ _ _ _ _ c.loop-test.true c.before.loop.invariant c.before.before.before.requires.1) }
-
-add_wide : tie.Need-overflow-add-wide invariant-loop decreases-loop
-add_wide c = search rules
-
-shared-slice-read-wide : tie.Need-shared-slice-read-wide invariant-loop decreases-loop
-shared-slice-read-wide c = search rules
-
-wide-requires : tie.Need-wide-requires invariant-loop decreases-loop
-wide-requires c κs = search rules
-
-add-n : tie.Need-overflow-add-n invariant-loop decreases-loop
-add-n c =
+pub overflow_add-n : goal.overflow_add-n
+overflow_add-n c =
     omega (
       arith,
-      fits _ _ _ _ _ c.before.before.loop-test.true c.before.before.before.loop.invariant c.before.before.before.before.before.requires.1,
+      fits _ _ _ _ _ c.loop-left-test.true c.loop-left.invariant c.requires.1,
       c.wide.ensures.1,
     )
 
-loop-less : tie.Need-loop-smaller invariant-loop decreases-loop
-loop-less c = search rules
-
-loop-again : tie.Need-loop-preserved invariant-loop decreases-loop
-loop-again c =
-    turn _ _ _ _ _ c.before.before.loop-test.true c.before.before.before.loop.invariant _ c.before.before.before.before.before.requires.0
+pub loop-left-preserved : goal.loop-left-preserved
+loop-left-preserved c =
+    turn _ _ _ _ _ c.loop-left-test.true c.loop-left.invariant _ c.requires.0
     c.wide.ensures.1 c.wide.ensures.0
 
-returns : tie.Need-returns invariant-loop decreases-loop
-returns c = done _ _ _ _ _ c.loop-test.false c.before.loop.invariant
-
-pub number-spec : {M : Type 1} → statement M
-number-spec =
-    tie.close
-    (tie.spec
-    invariant-loop
-    decreases-loop
-    loop-holds
-    sub-left
-    mul-n
-    add_wide
-    shared-slice-read-wide
-    wide-requires
-    add-n
-    loop-less
-    loop-again
-    returns)
+pub returns : goal.returns
+returns c = done _ _ _ _ _ c.loop-left-test.false c.loop-left.invariant

@@ -1,0 +1,44 @@
+-- `trace::encoder::put_rates` meets its contract: the six places are those of the model's layout.
+-- Assumes nothing.
+use Rattle.trace.proofs.Laid.{body_laid_lem}
+use Rattle.rules.specs.Trace.{layout, fields_of}
+use Rattle.rules.specs.declared.trace.Record.TheVariants.{Model}
+use borrow.Author.Rules.{rules}
+use Rattle.trace.proofs.encoder.put_rates.Goals as goal
+
+pub put-requires : goal.put-requires
+unfolding layout
+put-requires c = search rules
+
+pub put-requires-2 : goal.put-requires-2
+unfolding layout
+put-requires-2 c = search rules
+
+pub put-requires-3 : goal.put-requires-3
+unfolding layout
+put-requires-3 c = search rules
+
+pub put-requires-4 : goal.put-requires-4
+unfolding layout
+put-requires-4 c = search rules
+
+pub put-requires-5 : goal.put-requires-5
+unfolding layout
+put-requires-5 c = search rules
+
+pub put-requires-6 : goal.put-requires-6
+unfolding layout
+put-requires-6 c = search rules
+
+pub returns : goal.returns
+unfolding layout fields_of
+returns c =
+    let sixth = c in
+    let fifth = sixth in
+    let fourth = fifth in
+    let third = fourth in
+    let second = third in
+    let first = second in
+    let start = first in
+    rw (sixth.put-6.ensures, fifth.put-5.ensures, fourth.put-4.ensures, third.put-3.ensures, second.put-2.ensures, first.put.ensures)
+    (body_laid_lem (layout 2) (fields_of (Model start.args.rates)) 1 start.args.lent.now start.requires)
