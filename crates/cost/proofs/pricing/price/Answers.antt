@@ -1,0 +1,30 @@
+-- `cost::pricing::price` meets its contract: the rates are in range where they are priced.
+-- Assumes nothing.
+use borrow.Author.Rules.{rules}
+use mathlib.Core.Path.{sym, ◌∙◌}
+use Rattle.rules.specs.Cost.{priced}
+use Rattle.rules.specs.Refusals.{rate_checks}
+use Rattle.rules.specs.Entries.{pricing, pricing_by}
+use Rattle.rules.proofs.Laws.Costs.{rates_in_range_lem}
+use Rattle.rules.proofs.Laws.Refusals.{both, price_on_paper}
+use Rattle.cost.proofs.pricing.price.Goals as goal
+
+pub price_of-read-requires : goal.price_of-read-requires
+price_of-read-requires c =
+    let w = (rates_in_range_lem _).0 (sym c.rates_in_range.ensures ∙ c.if-rates_in_range.true) in
+    search rules
+
+pub price_of-write-requires : goal.price_of-write-requires
+price_of-write-requires c =
+    let w = (rates_in_range_lem _).0 (sym c.rates_in_range.ensures ∙ c.if-rates_in_range.true) in
+    search rules
+
+pub returns-then-rates_in_range : goal.returns-then-rates_in_range
+unfolding pricing rate_checks pricing_by priced
+returns-then-rates_in_range c =
+    let e = sym c.rates_in_range.ensures ∙ c.if-rates_in_range.true in
+    both (rw (e, c.price_of-read.ensures, c.price_of-write.ensures)) (price_on_paper _)
+
+pub returns-else-rates_in_range : goal.returns-else-rates_in_range
+unfolding pricing rate_checks pricing_by
+returns-else-rates_in_range c = both (rw (sym c.rates_in_range.ensures ∙ c.if-rates_in_range.false)) (price_on_paper _)

@@ -1,0 +1,58 @@
+-- `lines::put_releases` meets its contract. The invariant: the first i ids stand at the front, in at most 13 bytes each.
+-- Assumes nothing.
+use mathlib.Core.Path.{◌≡◌}
+use mathlib.Core.List.{List, [], ◌∷◌}
+use Prim.Native.Nat.{ℕ, ◌+◌, ◌-◌, ◌*◌, ◌≤◌, ◌<◌}
+use native.Mathlib.Omega.{arith}
+use lib.ListN.{length, take, get_or}
+use borrow.Author.Rules.{rules}
+use Rattle.rules.specs.Replay.{line, release_lines}
+use Rattle.rules.specs.Buffers.{Written, Stands, rest_of, put_back}
+use Rattle.rules.proofs.Laws.Buffers.{stands_none, stands_kept, stands_left, stands_rest, stands_more}
+use Rattle.rules.proofs.Laws.Lines.{releases_next}
+use Rattle.lines.proofs.put_releases.Invariants.{Inv}
+use Rattle.lines.proofs.put_releases.Goals as goal
+
+module _ {ids o₀ o : List ℕ} {count at i : ℕ} (v : Inv ids o₀ o count at i) where
+  finished : count ≤ i → Written (release_lines (take count ids)) at o₀ o
+  finished h = let e : i ≡ count = omega (arith, v.upto) in rw e at v.front.front
+
+  module _ (room : 13 * count ≤ length o₀) (h : i < count) where
+    asked : 13 ≤ length (rest_of o at)
+    asked = rw (stands_rest v.front) (omega (arith, v.few))
+
+    turn : count ≤ length ids → (r : ℕ) (ys : List ℕ) → Written (line 114 (get_or ids i 0 ∷ [])) r (rest_of o at) ys → r ≤ 13
+        → Inv ids o₀ (put_back o at ys) count (at + r) (i + 1)
+    turn there r ys w short = record {
+      upto = omega arith;
+      front = rw (releases_next ids i (omega arith)) (stands_more v.front (line 114 (get_or ids i 0 ∷ [])) ys r w (omega (arith, v.few)));
+      few = omega (arith, v.few);
+    }
+
+pub loop-i-init : goal.loop-i-init
+loop-i-init c = record { upto = search rules; front = stands_none c.args.out.now; few = search rules }
+
+pub slice_bounds-put_id-count : goal.slice_bounds-put_id-count
+slice_bounds-put_id-count c = stands_left c.loop-i.invariant.front
+
+pub slice_bounds-put_id-start : goal.slice_bounds-put_id-start
+slice_bounds-put_id-start c = stands_left c.loop-i.invariant.front
+
+pub put_id-at-requires : goal.put_id-at-requires
+put_id-at-requires c =
+    let head = c in
+    asked head.loop-i.invariant head.requires.1 c.loop-i-test.true
+
+pub loop-i-preserved : goal.loop-i-preserved
+loop-i-preserved c =
+    let called = c in
+    let turned = called in
+    let start = turned in
+    turn turned.loop-i.invariant start.requires.1 turned.loop-i-test.true start.requires.0 called.put_id-at.result called.put_id-at.new.1.1.0
+    called.put_id-at.ensures.0 called.put_id-at.ensures.1
+
+pub shape_of-out : goal.shape_of-out
+shape_of-out c = stands_kept c.loop-i.invariant.front
+
+pub returns : goal.returns
+returns c = finished c.loop-i.invariant c.loop-i-test.false

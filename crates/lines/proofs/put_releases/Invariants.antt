@@ -1,0 +1,24 @@
+-- `lines::put_releases` meets its contract. The invariant: the first i ids stand at the front, in at most 13 bytes each.
+-- Assumes nothing.
+use mathlib.Core.Path.{◌≡◌}
+use mathlib.Core.List.{List, [], ◌∷◌}
+use Prim.Native.Nat.{ℕ, ◌+◌, ◌-◌, ◌*◌, ◌≤◌, ◌<◌}
+use native.Mathlib.Omega.{arith}
+use lib.ListN.{length, take, get_or}
+use borrow.Author.Rules.{rules}
+use Rattle.rules.specs.Replay.{line, release_lines}
+use Rattle.rules.specs.Buffers.{Written, Stands, rest_of, put_back}
+use Rattle.rules.proofs.Laws.Buffers.{stands_none, stands_kept, stands_left, stands_rest, stands_more}
+use Rattle.rules.proofs.Laws.Lines.{releases_next}
+use Rattle.lines.proofs.put_releases.Given as goal
+
+pub record Inv (ids o₀ o : List ℕ) (count at i : ℕ) : Type 0 where
+  pub upto : i ≤ count
+  pub front : Stands (release_lines (take i ids)) o₀ o at
+  pub few : at ≤ 13 * i
+
+abbrev pub invariant-loop-i : goal.invariant-loop-i
+invariant-loop-i l = Inv l.ids l.initial.out l.out l.count l.at l.i
+
+abbrev pub decreases-loop-i : goal.decreases-loop-i
+decreases-loop-i l = l.count - l.i

@@ -1,0 +1,25 @@
+-- `lines::put_shares` meets its contract. The invariant: the leaves below n stand at the front, in at most 16 bytes each.
+-- Assumes nothing.
+use mathlib.Core.Path.{◌≡◌}
+use mathlib.Core.List.{List}
+use Prim.Native.Nat.{ℕ, ◌+◌, ◌-◌, ◌*◌, ◌≤◌, ◌<◌}
+use native.Mathlib.Omega.{arith}
+use lib.ListN.{length, get_or}
+use borrow.Author.Rules.{rules}
+use Rattle.rules.specs.Buffers.{Written, Stands, rest_of, put_back}
+use Rattle.rules.proofs.Laws.Buffers.{stands_none, stands_kept, stands_left, stands_rest, stands_more}
+use Rattle.rules.proofs.Laws.Lines.{shares_none, shares_next}
+use Rattle.rules.specs.Replay.{leaf_line, share_lines_to, share_lines_of}
+use Rattle.lines.proofs.put_shares.Given as goal
+
+pub record Inv (active : ℕ) (shares o₀ o : List ℕ) (at n : ℕ) : Type 0 where
+  pub from : 0 < n
+  pub upto : n ≤ 64
+  pub front : Stands (share_lines_to active shares (n - 1)) o₀ o at
+  pub few : at ≤ 16 * (n - 1)
+
+abbrev pub invariant-loop-n : goal.invariant-loop-n
+invariant-loop-n l = Inv l.active l.shares l.initial.out l.out l.at l.n
+
+abbrev pub decreases-loop-n : goal.decreases-loop-n
+decreases-loop-n l = 64 - l.n
