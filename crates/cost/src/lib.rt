@@ -2,6 +2,7 @@
 // tests, one product and one sum. This crate knows nothing of trees, shares or budgets: of a leaf it reads where its last
 // bio ended that was no flush. Tests are joined by `&`: each is cheaper than a branch.
 #![tactic(auto)]
+
 pub mod bio;
 pub mod pricing;
 

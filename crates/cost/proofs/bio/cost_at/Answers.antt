@@ -1,6 +1,5 @@
 -- `cost::bio::cost_at` meets its contract; a sound price and at most 256 pages keep the sum far below 64 bits.
 -- Assumes nothing.
-use borrow.Author.Rules.{rules}
 use mathlib.Core.Path.{◌≡◌}
 use mathlib.Core.Bool.{Bool, cond}
 use Prim.Native.Nat.{ℕ, ◌+◌, ◌*◌, ◌≤◌}

@@ -1,6 +1,5 @@
 -- `cost::bio::cost_by_rule` meets its contract: each arm is that of the rule's test, and the callees find what the rule asks.
 -- Assumes nothing.
-use borrow.Author.Rules.{rules}
 use mathlib.Core.Path.{◌≡◌, sym, ◌∙◌}
 use mathlib.Core.Bool.{Bool, true, false, cond}
 use Rattle.rules.specs.Cost.{is_write, is_flush, is_sequential, cost_at, cost_of}

@@ -1,6 +1,5 @@
 -- `cost::bio::cost_of` meets its contract: what its callee finds is the rule's cost, and the tests are the rule's in its order.
 -- Assumes nothing.
-use borrow.Author.Rules.{rules}
 use mathlib.Core.Path.{◌≡◌, sym, ◌∙◌}
 use mathlib.Core.Bool.{true, false}
 use Prim.Native.Nat.{◌≤◌, ◌<◌}
@@ -32,7 +31,7 @@ pub cost_by_rule-cost-requires : goal.cost_by_rule-cost-requires
 cost_by_rule-cost-requires c =
     let start = c in
     let range = (bio_in_range_lem start.args.bio).0 (sym c.in_range.ensures ∙ c.if-in_range.true) in
-    (start.requires, bytes_most start.args.bio range)
+    (start.requires, bytes_most_lem start.args.bio range)
 
 pub returns-then-cost-le-COST_MOST : goal.returns-then-cost-le-COST_MOST
 returns-then-cost-le-COST_MOST c = let costed = c in

@@ -1,6 +1,5 @@
 -- `cost::bio::in_range` meets its contract by those of its callees: the other tests are the definition.
 -- Assumes nothing.
-use borrow.Author.Rules.{rules}
 use Rattle.cost.proofs.bio.in_range.Goals as goal
 
 pub returns : goal.returns

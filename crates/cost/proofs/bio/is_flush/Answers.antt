@@ -1,6 +1,5 @@
 -- `cost::bio::is_flush` meets its contract by that of `is_write`.
 -- Assumes nothing.
-use borrow.Author.Rules.{rules}
 use Rattle.rules.specs.Cost.{is_flush}
 use Rattle.cost.proofs.bio.is_flush.Goals as goal
 

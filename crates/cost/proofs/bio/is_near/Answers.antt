@@ -1,6 +1,5 @@
 -- `cost::bio::is_near` meets its contract: of the rule's two tests the one on the nearer side always holds, and the other is the code's.
 -- Assumes nothing.
-use borrow.Author.Rules.{rules}
 use mathlib.Core.Path.{◌≡◌, refl}
 use mathlib.Core.Bool.{Bool, true, false, ◌&&◌}
 use Prim.Native.Nat.{ℕ, ◌+◌, ◌-◌, ◌≤◌, ◌<◌}

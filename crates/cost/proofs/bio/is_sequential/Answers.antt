@@ -1,6 +1,5 @@
 -- `cost::bio::is_sequential` meets its contract by that of `is_near`.
 -- Assumes nothing.
-use borrow.Author.Rules.{rules}
 use Rattle.rules.specs.Cost.{is_sequential}
 use Rattle.cost.proofs.bio.is_sequential.Goals as goal
 

@@ -1,6 +1,5 @@
 -- `cost::bio::price_for` meets its contract: each arm is that of the rule's test.
 -- Assumes nothing.
-use borrow.Author.Rules.{rules}
 use mathlib.Core.Path.{sym, ◌∙◌}
 use Rattle.cost.proofs.bio.price_for.Goals as goal
 

@@ -1,6 +1,5 @@
 -- `cost::pricing::base_cost` meets its contract: the rules' difference is 0 where the page costs more.
 -- Assumes nothing.
-use borrow.Author.Rules.{rules}
 use mathlib.Core.Path.{ap}
 use native.Mathlib.Omega.{arith}
 use Rattle.rules.specs.Units.{abs}

@@ -1,6 +1,5 @@
 -- `cost::pricing::page_cost` meets its contract by that of `ceil_div`.
 -- Assumes nothing.
-use borrow.Author.Rules.{rules}
 use mathlib.Core.Path.{ap}
 use Rattle.rules.specs.Units.{abs}
 use Rattle.rules.specs.Cost.{page_cost}

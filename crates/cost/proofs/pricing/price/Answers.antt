@@ -6,7 +6,10 @@ use Rattle.rules.specs.Cost.{priced}
 use Rattle.rules.specs.Refusals.{rate_checks}
 use Rattle.rules.specs.Entries.{pricing, pricing_by}
 use Rattle.rules.proofs.Laws.Costs.{rates_in_range_lem}
-use Rattle.rules.proofs.Laws.Refusals.{both, price_on_paper}
+use Rattle.rules.proofs.Laws.Refusals.{price_on_paper}
+use Rattle.rules.specs.declared.refusals.Refusal.TheVariants.{BadRate}
+use Rattle.rules.specs.declared.refusals.Pricing.TheVariants.{Priced, Refused}
+use mathlib.Core.Path.{◌≡◌}
 use Rattle.cost.proofs.pricing.price.Goals as goal
 
 pub price_of-read-requires : goal.price_of-read-requires
@@ -23,8 +26,11 @@ pub returns-then-rates_in_range : goal.returns-then-rates_in_range
 unfolding pricing rate_checks pricing_by priced
 returns-then-rates_in_range c =
     let e = sym c.rates_in_range.ensures ∙ c.if-rates_in_range.true in
-    both (rw (e, c.price_of-read.ensures, c.price_of-write.ensures)) (price_on_paper _)
+    let v : Priced (record { read = c.price_of-read.result; write = c.price_of-write.result }) ≡ pricing c.args.rates = rw (e, c.price_of-read.ensures, c.price_of-write.ensures) in
+    record { value = v; number = price_on_paper _ v }
 
 pub returns-else-rates_in_range : goal.returns-else-rates_in_range
 unfolding pricing rate_checks pricing_by
-returns-else-rates_in_range c = both (rw (sym c.rates_in_range.ensures ∙ c.if-rates_in_range.false)) (price_on_paper _)
+returns-else-rates_in_range c =
+    let v : Refused BadRate ≡ pricing c.args.rates = rw (sym c.rates_in_range.ensures ∙ c.if-rates_in_range.false) in
+    record { value = v; number = price_on_paper _ v }

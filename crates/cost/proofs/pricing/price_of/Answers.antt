@@ -1,6 +1,5 @@
 -- `cost::pricing::price_of` meets its contract by those of the page cost and the bases.
 -- Assumes nothing.
-use borrow.Author.Rules.{rules}
 use Rattle.rules.specs.Cost.{price_of, base_cost}
 use Rattle.cost.proofs.pricing.price_of.Goals as goal
 

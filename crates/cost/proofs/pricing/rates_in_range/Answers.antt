@@ -1,6 +1,5 @@
 -- `cost::pricing::rates_in_range` meets its contract by those of the tests of one rate.
 -- Assumes nothing.
-use borrow.Author.Rules.{rules}
 use Rattle.rules.specs.Cost.{rates_in_range}
 use Rattle.cost.proofs.pricing.rates_in_range.Goals as goal
 
