@@ -87,13 +87,19 @@ for document in README.md docs/*.md; do
     done < <(quoted <"$document" | sed 's|^\./||; s/ .*//' | grep -E '^(\.ci|agreement|bench|cases|crates|docs|examples|second|tests|tools)/' | sort -u)
 done
 
-# ---- every theorem: a word of small letters with hyphens is one of ours, or a stored case
-grep -rhoE '^ *(pub )?[a-z0-9]+(-[a-z0-9]+)+ :' crates --include='*.antt' | tr -d ' :' | sed 's/^pub//' | sort -u >"$work/theorems"
-is_shown() { grep -qxF "$1" "$work/theorems" || [ -f "cases/$1.text" ]; }
+# ---- every name: a word of small letters with underscores or hyphens is a definition or theorem of ours, or an item or a field
+# of the code, an edit, or a stored case
+{
+    grep -rhoE '^ *((pattern|unfoldable|abbrev|pub) )*[a-z0-9]+([-_][a-z0-9]+)+( \{[^}]*\})? :' crates --include='*.antt' | sed -E 's/^ *((pattern|unfoldable|abbrev|pub) )*//; s/( \{[^}]*\})? :$//'
+    grep -rhoE '\b(fn|mod) [a-z0-9_]+|\b[a-z0-9_]+:' crates --include='*.rt' | sed -E 's/^(fn|mod) //; s/:$//'
+    sed 's|.*/||' "$work/there"
+} | sort -u >"$work/names"
+is_shown() { grep -qxF -- "$1" "$work/names" || [ -f "cases/$1.text" ]; }
 for document in README.md docs/*.md; do
+    [ "$document" != docs/PORT.md ] || continue
     while read -r name; do
         is "$document names $name, which nothing shows" is_shown "$name"
-    done < <(quoted <"$document" | grep -xE '[a-z0-9]+(-[a-z0-9]+)+' | sort -u)
+    done < <(quoted <"$document" | grep -xE '[a-z0-9]+([-_][a-z0-9]+)+' | sort -u)
 done
 
 # ---- every item of a crate: what begins with a crate's name and two colons, module by module to the last one
