@@ -17,4 +17,4 @@ put id cost q h n e f = rw (e, f)
 pub returns : goal.returns
 returns c =
     let a = c.args in
-    put a.id a.cost a.t3 c.place.result c.place-2.result c.place.ensures c.place-2.ensures
+    put a.id a.cost a.queue c.place.result c.place-2.result c.place.ensures c.place-2.ensures

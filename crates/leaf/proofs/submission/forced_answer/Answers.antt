@@ -13,10 +13,10 @@ pub returns-then-fits : goal.returns-then-fits
 unfolding answer_to
 returns-then-fits c =
     let at = c in
-    simp (sym at.owes.ensures ∙ at.if-owes.false, sym c.fits2.ensures ∙ c.if-fits.true)
+    simp (sym at.owes.ensures ∙ at.if-owes.false, sym c.fits.ensures ∙ c.if-fits.true)
 
 pub returns-else-fits : goal.returns-else-fits
 unfolding answer_to
 returns-else-fits c =
     let at = c in
-    simp (sym at.owes.ensures ∙ at.if-owes.false, sym c.fits2.ensures ∙ c.if-fits.false)
+    simp (sym at.owes.ensures ∙ at.if-owes.false, sym c.fits.ensures ∙ c.if-fits.false)

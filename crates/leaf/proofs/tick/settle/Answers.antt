@@ -8,9 +8,10 @@ use Rattle.rules.specs.Tick.{repayment, repaid}
 use Rattle.leaf.specs.Fit.{CanRepay, gain_fits, gained_can_repay}
 use Rattle.leaf.proofs.Release.{nothing_owed, settles}
 use Rattle.leaf.proofs.tick.settle.Goals as goal
+use Rattle.leaf.proofs.tick.settle.Goals.{Joined-owes}
 
 -- whether it owed or not
-paid : (c : goal.Joined-owes) →
+paid : (c : Joined-owes) →
     let share = c.args.share in
     let more = c.gained-row.result in
     (c.if-owes.row ≡ repaid share more) × (c.if-owes.p ≡ repayment share more)
