@@ -6,7 +6,6 @@ use lib.ListN.{set}
 use Rattle.rules.specs.Budget.{pushed}
 use Rattle.rules.specs.declared.units.Abs.{Abs}
 use Rattle.rules.specs.declared.budget.Queue.{Queue}
-use borrow.Author.Rules.{rules}
 use Rattle.leaf.proofs.queue.pushed.Goals as goal
 
 -- the queue with the place behind its last given as a sum

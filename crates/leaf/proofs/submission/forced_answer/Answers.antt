@@ -2,7 +2,6 @@
 -- Assumes nothing.
 use mathlib.Core.Path.{sym, ◌∙◌}
 use Rattle.rules.specs.Budget.{answer_to}
-use borrow.Author.Rules.{rules}
 use Rattle.leaf.proofs.submission.forced_answer.Goals as goal
 
 pub returns-then-owes : goal.returns-then-owes

@@ -4,7 +4,6 @@ use mathlib.Core.Path.{sym, ◌∙◌}
 use native.Mathlib.Omega.{arith}
 use borrow.Author.Tests.{lt-ltb, le-ltb}
 use Rattle.rules.specs.Budget.{answer_to}
-use borrow.Author.Rules.{rules}
 use Rattle.leaf.proofs.submission.unforced_answer.Goals as goal
 
 pub returns-then-owes : goal.returns-then-owes

@@ -2,10 +2,8 @@
 -- release from here on behind it, is the whole release. The measure is how many wait.
 -- Assumes nothing.
 use native.Mathlib.Omega.{arith}
-use borrow.Author.Rules.{rules}
-use Rattle.rules.specs.declared.budget.Queue.{Queue}
 use Rattle.leaf.specs.Turns.{cut}
-use Rattle.leaf.proofs.Release.{Going, begins, cost_is_oldest, id_is_oldest, first_is_priced, first_told, first_is_payable, goes_on, ends, nothing_waits, first_does_not_fit}
+use Rattle.leaf.proofs.Release.{begins, cost_is_oldest, id_is_oldest, first_is_priced, first_told, first_is_payable, goes_on, ends, nothing_waits, first_does_not_fit}
 use Rattle.leaf.proofs.tick.release_fitting.Goals as goal
 
 pub loop-len-init : goal.loop-len-init
