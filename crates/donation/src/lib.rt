@@ -1,6 +1,7 @@
 // Step 4 of a plan, on plain numbers: who takes, what the members of a set have together, and each leaf's share once
 // donors keep no more than their targets. The caller says who is active and who donates; nothing here knows of rows.
 #![tactic(auto)]
+
 ghost use Rattle.std.specs.Prelude.{◌≡◌, true, false, cond, ◌*◌, ◌^◌, ◌≤◌, ◌<◌};
 ghost use Rattle.rules.specs.Words.{has as member, set_of, table};
 ghost use Rattle.rules.specs.Units.{floor_of};

@@ -2,6 +2,7 @@
 // plan does to its row. A share comes in as a number and released ids go out into a lent buffer; nothing here knows of
 // another leaf, of the tree or of the clock.
 #![tactic(auto)]
+
 ghost use Rattle.std.specs.Prelude.{◌≡◌, min};
 
 pub mod plan;

@@ -1,25 +1,19 @@
 -- `donation::donated` meets its contract: the sums are those of the rules, and the one place set is the lowest taker's.
 -- Assumes nothing.
-use mathlib.Core.Path.{refl}
-use Prim.Native.Nat.{◌-◌}
-use native.Mathlib.Omega.{arith}
-use borrow.Author.Rules.{rules}
+use Rattle.std.proofs.Common.{◌≡◌, refl, ℕ, ◌-◌, List, arith}
+use Rattle.rules.specs.Words.{set_of, table}
+use Rattle.rules.specs.Plan.{is_taker, share_given}
+use Rattle.rules.proofs.Laws.Donation.{S, D, T}
+use Rattle.donation.specs.Donation.{Donation}
 use Rattle.donation.proofs.Rest.{sub_same, bases_within, targets_within, parts, Handing, handing}
 use Rattle.donation.proofs.donated.Goals as goal
 
--- above the needs that a lie about it may leave true: the first error is what is false
-hand : (c : goal.After-takers-others)
-    → let a = c.args in
-    Handing a.active a.donors (c.sum_over-sum.result - c.sum_over.result)
-    a.bases.now a.targets.now c.floors-shares.result c.takers-others.result
-hand c =
-    let b = c in
-    let s = b.sum_over-sum.ensures in
-    handing b.requires (sub_same s b.sum_over.ensures) (sub_same s b.sum_over-2.ensures)
-    c.floors-shares.result c.takers-others.result c.floors-shares.ensures c.takers-others.ensures
-
-pub returns : goal.returns
-returns c = (hand c).out (sub_same refl c.sum_over-3.ensures) c.lowest-first.ensures
+-- what remains, of the three sums
+hand : {active donors sum gone own : ℕ} {bases targets : List ℕ} → Donation active donors bases targets
+    → sum ≡ S active bases → gone ≡ T donors targets → own ≡ D donors bases → (shares : List ℕ) (others : ℕ)
+    → shares ≡ table (share_given active donors (sum - gone) (sum - own) 0 bases targets) → others ≡ set_of (is_taker active donors)
+    → Handing active donors (sum - gone) bases targets shares others
+hand d s t o = handing d (sub_same s t) (sub_same s o)
 
 pub overflow_sub-left : goal.overflow_sub-left
 overflow_sub-left c = omega (arith, c.sum_over.ensures, c.sum_over-sum.ensures, targets_within c.requires)
@@ -33,12 +27,21 @@ floors-shares-requires c =
     parts c.requires (sub_same s c.sum_over.ensures) (sub_same s c.sum_over-2.ensures)
 
 pub overflow_sub-rest : goal.overflow_sub-rest
-overflow_sub-rest c = rw c.sum_over-3.ensures (hand c).within
+overflow_sub-rest c =
+    let h = hand c.requires c.sum_over-sum.ensures c.sum_over.ensures c.sum_over-2.ensures _ _ c.floors-shares.ensures c.takers-others.ensures in
+    omega (arith, h.within, c.sum_over-3.ensures)
 
 pub lowest-first-requires : goal.lowest-first-requires
-lowest-first-requires c = (hand c).some
+lowest-first-requires c =
+    (hand c.requires c.sum_over-sum.ensures c.sum_over.ensures c.sum_over-2.ensures _ _ c.floors-shares.ensures c.takers-others.ensures).some
 
 pub overflow_add-shares : goal.overflow_add-shares
 overflow_add-shares c =
-    let most = (hand c).most (sub_same refl c.sum_over-3.ensures) c.lowest-first.ensures in
-    record { fits = omega (arith, most) }
+    let h = hand c.requires c.sum_over-sum.ensures c.sum_over.ensures c.sum_over-2.ensures _ _ c.floors-shares.ensures c.takers-others.ensures in
+    let most = h.most (sub_same refl c.sum_over-3.ensures) c.lowest-first.ensures in
+    omega (arith, most)
+
+pub returns : goal.returns
+returns c =
+    let h = hand c.requires c.sum_over-sum.ensures c.sum_over.ensures c.sum_over-2.ensures _ _ c.floors-shares.ensures c.takers-others.ensures in
+    h.out (sub_same refl c.sum_over-3.ensures) c.lowest-first.ensures

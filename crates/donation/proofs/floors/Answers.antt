@@ -1,13 +1,12 @@
 -- `donation::floors` meets its contract: at the loop's head the places passed have their shares.
 -- Assumes nothing.
-use mathlib.Core.Path.{◌≡◌, refl}
-use Prim.Native.Nat.{◌-◌, ◌≤◌, ◌<◌}
+use mathlib.Core.Path.{refl}
+use Prim.Native.Nat.{◌<◌}
 use native.Mathlib.Omega.{arith}
 use borrow.Author.Rules.{rules}
 use lib.ListN.{replicate}
-use Rattle.rules.specs.Words.{table}
 use Rattle.rules.specs.Plan.{share_given}
-use Rattle.rules.proofs.Laws.Sweeps.{swept, place_put, places_done}
+use Rattle.rules.proofs.Laws.Sweeps.{place_put, places_done}
 use Rattle.donation.proofs.Rest.{quotient_fits, share_floored}
 use Rattle.donation.proofs.floors.Goals as goal
 

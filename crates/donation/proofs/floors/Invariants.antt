@@ -1,14 +1,10 @@
 -- `donation::floors` meets its contract: at the loop's head the places passed have their shares.
 -- Assumes nothing.
-use mathlib.Core.Path.{◌≡◌, refl}
-use Prim.Native.Nat.{◌-◌, ◌≤◌, ◌<◌}
-use native.Mathlib.Omega.{arith}
-use borrow.Author.Rules.{rules}
-use lib.ListN.{replicate}
+use mathlib.Core.Path.{◌≡◌}
+use Prim.Native.Nat.{◌-◌, ◌≤◌}
 use Rattle.rules.specs.Words.{table}
 use Rattle.rules.specs.Plan.{share_given}
-use Rattle.rules.proofs.Laws.Sweeps.{swept, place_put, places_done}
-use Rattle.donation.proofs.Rest.{quotient_fits, share_floored}
+use Rattle.rules.proofs.Laws.Sweeps.{swept}
 use Rattle.donation.proofs.floors.Given as goal
 
 abbrev pub invariant-loop-n : goal.invariant-loop-n

@@ -1,6 +1,5 @@
 -- `donation::is_donation` meets its contract: a set of leaves that is not 0 has a member.
 -- Assumes nothing.
-use borrow.Author.Rules.{rules}
 use Rattle.donation.proofs.Rest.{both_some}
 use Rattle.donation.proofs.is_donation.Goals as goal
 

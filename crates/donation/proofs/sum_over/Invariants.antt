@@ -1,15 +1,11 @@
 -- `donation::sum_over` meets its contract: at the loop's head is the sum over the nodes passed.
 -- Assumes nothing.
-use mathlib.Core.Path.{◌≡◌, ap, ◌∙◌}
-use mathlib.Core.Bool.{Bool, cond}
+use mathlib.Core.Path.{◌≡◌}
+use mathlib.Core.Bool.{cond}
 use mathlib.Core.List.{List}
-use Prim.Native.Nat.{ℕ, ◌+◌, ◌-◌, ◌*◌, ◌^◌, ◌≤◌}
-use native.Mathlib.Numerals.{add-one}
-use native.Mathlib.Omega.{arith}
-use borrow.Author.Rules.{rules}
+use Prim.Native.Nat.{ℕ, ◌-◌, ◌*◌, ◌^◌, ◌≤◌}
 use lib.ListN.{get_or}
 use Rattle.rules.specs.Words.{sum_to, has}
-use Rattle.rules.specs.Plan.{sum_over}
 use Rattle.donation.proofs.sum_over.Given as goal
 
 abbrev pub part_at : ℕ → List ℕ → ℕ → ℕ

@@ -8,7 +8,6 @@ use Rattle.rules.specs.Units.{abs}
 use Rattle.rules.specs.Budget.{with_debt}
 use Rattle.rules.specs.Plan.{forgiveness}
 use Rattle.rules.specs.declared.units.Abs.{Abs}
-use borrow.Author.Rules.{rules}
 use Rattle.leaf.proofs.plan.forgiven.Goals as goal
 
 forgives-no-more-than-is-owed : (quiet : Bool) (debt : Abs) → (forgiveness quiet debt).0 ≤ debt.0

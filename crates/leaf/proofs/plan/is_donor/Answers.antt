@@ -3,7 +3,6 @@
 use mathlib.Core.Path.{sym, ◌∙◌}
 use borrow.Author.Tests.{lt-ltb, le-ltb}
 use Rattle.rules.specs.Plan.{is_donor}
-use borrow.Author.Rules.{rules}
 use Rattle.leaf.proofs.plan.is_donor.Goals as goal
 
 pub returns-then-owes : goal.returns-then-owes

@@ -2,7 +2,6 @@
 -- Assumes nothing.
 use mathlib.Core.Path.{ap, ◌∙◌}
 use Rattle.rules.specs.Plan.{rested, restarted}
-use borrow.Author.Rules.{rules}
 use Rattle.leaf.proofs.plan.plan_row.Goals as goal
 
 pub returns : goal.returns

@@ -1,6 +1,5 @@
 -- `leaf::plan::rested` meets its contract: the test is the rule's own.
 -- Assumes nothing.
-use borrow.Author.Rules.{rules}
 use Rattle.leaf.proofs.plan.rested.Goals as goal
 
 pub returns-else-stay : goal.returns-else-stay

@@ -1,7 +1,6 @@
 -- `leaf::plan::stays` meets its contract: each way out rewrites with the tests that led there.
 -- Assumes nothing.
 use borrow.Author.Tests.{lt-ltb, le-ltb}
-use borrow.Author.Rules.{rules}
 use Rattle.leaf.proofs.plan.stays.Goals as goal
 
 pub returns-then-waiting-gt0 : goal.returns-then-waiting-gt0

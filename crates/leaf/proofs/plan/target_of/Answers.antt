@@ -8,7 +8,6 @@ use Rattle.rules.specs.Plan.{used_share, target_of}
 use Rattle.rules.proofs.Laws.Units.{ceil_least}
 use Rattle.rules.specs.declared.units.Abs.{Abs}
 use Rattle.rules.specs.declared.units.Virt.{Virt}
-use borrow.Author.Rules.{rules}
 use Rattle.leaf.proofs.plan.target_of.Goals as goal
 
 module _ (since : Virt) (usage : Abs) {used : ℕ} (e : used ≡ used_share since usage) where

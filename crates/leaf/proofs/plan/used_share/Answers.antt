@@ -7,7 +7,6 @@ use Rattle.rules.specs.Units.{ceil_of, at_whole}
 use Rattle.rules.specs.Plan.{used_share}
 use Rattle.rules.specs.declared.units.Abs.{Abs}
 use Rattle.rules.specs.declared.units.Virt.{Virt}
-use borrow.Author.Rules.{rules}
 use Rattle.leaf.proofs.plan.used_share.Goals as goal
 
 used : (since : Virt) (usage : Abs) (all : Virt) (counted : ℕ) → all ≡ at_whole usage → counted ≡ min all.0 since.0

@@ -6,7 +6,6 @@ use lib.ListN.{set}
 use Rattle.rules.specs.Budget.{pushed}
 use Rattle.rules.specs.declared.units.Abs.{Abs}
 use Rattle.rules.specs.declared.budget.Queue.{Queue}
-use borrow.Author.Rules.{rules}
 use Rattle.leaf.proofs.queue.pushed.Goals as goal
 
 -- the queue with the place behind its last given as a sum
@@ -17,4 +16,4 @@ put id cost q h n e f = rw (e, f)
 pub returns : goal.returns
 returns c =
     let a = c.args in
-    put a.id a.cost a.t3 c.place.result c.place-2.result c.place.ensures c.place-2.ensures
+    put a.id a.cost a.queue c.place.result c.place-2.result c.place.ensures c.place-2.ensures

@@ -7,7 +7,6 @@ use Rattle.rules.specs.Budget.{with_budget, with_usage, charged}
 use Rattle.rules.specs.declared.units.Abs.{Abs}
 use Rattle.rules.specs.declared.units.Virt.{Virt}
 use Rattle.rules.specs.declared.budget.Row.{Row}
-use borrow.Author.Rules.{rules}
 use Rattle.leaf.proofs.row.charged.Goals as goal
 
 paid : (cost : Abs) (share : ℕ) (row : Row) (price left : Virt) → price ≡ relative cost share → left ≡ virt (row.budget.0 - price.0)

@@ -3,7 +3,6 @@
 use mathlib.Core.Path.{ap}
 use lib.Dec.{leb}
 use Rattle.rules.specs.declared.units.Virt.{Virt}
-use borrow.Author.Rules.{rules}
 use Rattle.leaf.proofs.row.fits.Goals as goal
 
 pub returns : goal.returns

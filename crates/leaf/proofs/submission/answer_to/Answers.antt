@@ -1,7 +1,6 @@
 -- `leaf::submission::answer_to` meets its contract: a forced bio does not look at who waits.
 -- Assumes nothing.
 use Rattle.rules.specs.Budget.{answer_to}
-use borrow.Author.Rules.{rules}
 use Rattle.leaf.proofs.submission.answer_to.Goals as goal
 
 pub returns-then-forced : goal.returns-then-forced

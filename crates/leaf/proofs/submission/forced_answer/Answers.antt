@@ -2,7 +2,6 @@
 -- Assumes nothing.
 use mathlib.Core.Path.{sym, ◌∙◌}
 use Rattle.rules.specs.Budget.{answer_to}
-use borrow.Author.Rules.{rules}
 use Rattle.leaf.proofs.submission.forced_answer.Goals as goal
 
 pub returns-then-owes : goal.returns-then-owes
@@ -13,10 +12,10 @@ pub returns-then-fits : goal.returns-then-fits
 unfolding answer_to
 returns-then-fits c =
     let at = c in
-    simp (sym at.owes.ensures ∙ at.if-owes.false, sym c.fits2.ensures ∙ c.if-fits.true)
+    simp (sym at.owes.ensures ∙ at.if-owes.false, sym c.fits.ensures ∙ c.if-fits.true)
 
 pub returns-else-fits : goal.returns-else-fits
 unfolding answer_to
 returns-else-fits c =
     let at = c in
-    simp (sym at.owes.ensures ∙ at.if-owes.false, sym c.fits2.ensures ∙ c.if-fits.false)
+    simp (sym at.owes.ensures ∙ at.if-owes.false, sym c.fits.ensures ∙ c.if-fits.false)

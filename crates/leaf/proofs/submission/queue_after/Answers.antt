@@ -1,7 +1,6 @@
 -- `leaf::submission::queue_after` meets its contract: a bio that waits has room.
 -- Assumes nothing.
 use Rattle.rules.specs.Budget.{queue_after}
-use borrow.Author.Rules.{rules}
 use Rattle.leaf.proofs.submission.queue_after.Goals as goal
 
 pub pushed-requires : goal.pushed-requires

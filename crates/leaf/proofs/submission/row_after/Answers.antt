@@ -2,7 +2,6 @@
 -- Assumes nothing.
 use Rattle.rules.specs.Budget.{row_after}
 use Rattle.leaf.specs.Fit.{issued_is_payable}
-use borrow.Author.Rules.{rules}
 use Rattle.leaf.proofs.submission.row_after.Goals as goal
 
 pub charged-requires : goal.charged-requires

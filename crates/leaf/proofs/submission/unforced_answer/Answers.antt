@@ -4,7 +4,6 @@ use mathlib.Core.Path.{sym, ◌∙◌}
 use native.Mathlib.Omega.{arith}
 use borrow.Author.Tests.{lt-ltb, le-ltb}
 use Rattle.rules.specs.Budget.{answer_to}
-use borrow.Author.Rules.{rules}
 use Rattle.leaf.proofs.submission.unforced_answer.Goals as goal
 
 pub returns-then-owes : goal.returns-then-owes
@@ -19,10 +18,10 @@ pub returns-then-fits : goal.returns-then-fits
 unfolding answer_to
 returns-then-fits c =
     let at = c in
-    simp (sym at.owes.ensures ∙ at.if-owes.false, le-ltb _ _ c.if-waiting-gt0.false, sym c.fits2.ensures ∙ c.if-fits.true)
+    simp (sym at.owes.ensures ∙ at.if-owes.false, le-ltb _ _ c.if-waiting-gt0.false, sym c.fits.ensures ∙ c.if-fits.true)
 
 pub returns-else-fits : goal.returns-else-fits
 unfolding answer_to
 returns-else-fits c =
     let at = c in
-    simp (sym at.owes.ensures ∙ at.if-owes.false, le-ltb _ _ c.if-waiting-gt0.false, sym c.fits2.ensures ∙ c.if-fits.false)
+    simp (sym at.owes.ensures ∙ at.if-owes.false, le-ltb _ _ c.if-waiting-gt0.false, sym c.fits.ensures ∙ c.if-fits.false)

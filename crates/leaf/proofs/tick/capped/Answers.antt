@@ -4,7 +4,6 @@ use mathlib.Core.Path.{sym, ◌∙◌}
 use native.Mathlib.Omega.{arith}
 use borrow.Author.Tests.{lt-ltb, le-ltb}
 use Rattle.rules.specs.Tick.{capped}
-use borrow.Author.Rules.{rules}
 use Rattle.leaf.proofs.tick.capped.Goals as goal
 
 pub returns-then-owes : goal.returns-then-owes

@@ -1,7 +1,6 @@
 -- `leaf::tick::is_due` meets its contract: by whether the leaf owes.
 -- Assumes nothing.
 use mathlib.Core.Path.{sym, ◌∙◌}
-use borrow.Author.Rules.{rules}
 use Rattle.leaf.proofs.tick.is_due.Goals as goal
 
 pub returns-then-owes : goal.returns-then-owes

@@ -2,10 +2,8 @@
 -- release from here on behind it, is the whole release. The measure is how many wait.
 -- Assumes nothing.
 use native.Mathlib.Omega.{arith}
-use borrow.Author.Rules.{rules}
-use Rattle.rules.specs.declared.budget.Queue.{Queue}
 use Rattle.leaf.specs.Turns.{cut}
-use Rattle.leaf.proofs.Release.{Going, begins, cost_is_oldest, id_is_oldest, first_is_priced, first_told, first_is_payable, goes_on, ends, nothing_waits, first_does_not_fit}
+use Rattle.leaf.proofs.Release.{begins, cost_is_oldest, id_is_oldest, first_is_priced, first_told, first_is_payable, goes_on, ends, nothing_waits, first_does_not_fit}
 use Rattle.leaf.proofs.tick.release_fitting.Goals as goal
 
 pub loop-len-init : goal.loop-len-init
@@ -24,7 +22,7 @@ loop-len-preserved c =
     let at = place in
     let cost = cost_is_oldest (cut at.args.queue at.loop-len.head at.loop-len.len) place.place-oldest.ensures in
     goes_on at.loop-len.invariant (omega (arith, place.loop-len-test.true))
-    (first_told at.loop-len.invariant cost test.fits2.ensures test.if-fits.true)
+    (first_told at.loop-len.invariant cost test.fits.ensures test.if-fits.true)
     cost
     (id_is_oldest (cut at.args.queue at.loop-len.head at.loop-len.len) place.place-oldest.ensures)
     c.charged-row.ensures
@@ -36,7 +34,7 @@ charged-row-requires c =
     let place = test in
     let at = place in
     let cost = cost_is_oldest (cut at.args.queue at.loop-len.head at.loop-len.len) place.place-oldest.ensures in
-    first_is_payable at.loop-len.invariant cost (first_told at.loop-len.invariant cost test.fits2.ensures test.if-fits.true)
+    first_is_payable at.loop-len.invariant cost (first_told at.loop-len.invariant cost test.fits.ensures test.if-fits.true)
 
 pub behind-head-requires : goal.behind-head-requires
 behind-head-requires c =
@@ -67,7 +65,7 @@ returns-else-fits c =
     let place = c in
     let at = place in
     let cost = cost_is_oldest (cut at.args.queue at.loop-len.head at.loop-len.len) place.place-oldest.ensures in
-    ends at.loop-len.invariant (first_does_not_fit _ _ _ (first_told at.loop-len.invariant cost c.fits2.ensures c.if-fits.false))
+    ends at.loop-len.invariant (first_does_not_fit _ _ _ (first_told at.loop-len.invariant cost c.fits.ensures c.if-fits.false))
 
 pub shape_of-out : goal.shape_of-out
 shape_of-out c = c.loop-len.invariant.size

@@ -1,11 +1,8 @@
 -- `leaf::tick::release_fitting` meets its contract. The loop's invariant is `Going`: what was written so far, with the
 -- release from here on behind it, is the whole release. The measure is how many wait.
 -- Assumes nothing.
-use native.Mathlib.Omega.{arith}
-use borrow.Author.Rules.{rules}
-use Rattle.rules.specs.declared.budget.Queue.{Queue}
 use Rattle.leaf.specs.Turns.{cut}
-use Rattle.leaf.proofs.Release.{Going, begins, cost_is_oldest, id_is_oldest, first_is_priced, first_told, first_is_payable, goes_on, ends, nothing_waits, first_does_not_fit}
+use Rattle.leaf.proofs.Release.{Going}
 use Rattle.leaf.proofs.tick.release_fitting.Given as goal
 
 abbrev pub invariant-loop-len : goal.invariant-loop-len

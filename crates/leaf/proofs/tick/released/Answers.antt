@@ -1,6 +1,5 @@
 -- `leaf::tick::released` meets its contract: what was released, and then the cap.
 -- Assumes nothing.
-use borrow.Author.Rules.{rules}
 use Rattle.rules.specs.Tick.{release_in}
 use Rattle.leaf.proofs.Release.{then_capped}
 use Rattle.leaf.proofs.tick.released.Goals as goal

@@ -10,7 +10,6 @@ use Rattle.rules.specs.declared.units.Abs.{Abs}
 use Rattle.rules.specs.declared.budget.Row.{Row}
 use Rattle.rules.proofs.Laws.Rows.{repayment_most}
 use Rattle.leaf.specs.Fit.{repayment_is_payable}
-use borrow.Author.Rules.{rules}
 use Rattle.leaf.proofs.tick.repaid.Goals as goal
 
 pays : (share : ℕ) (row : Row) (p : Abs) (after : Row) → p ≡ repayment share row → after ≡ charged p share row → owes row ≡ true

@@ -5,7 +5,6 @@ use Prim.Native.Nat.{min}
 use Rattle.rules.specs.Units.{abs}
 use Rattle.rules.specs.Tick.{repayment}
 use Rattle.rules.specs.declared.units.Abs.{Abs}
-use borrow.Author.Rules.{rules}
 use Rattle.leaf.proofs.tick.repayment.Goals as goal
 
 pub returns : goal.returns
