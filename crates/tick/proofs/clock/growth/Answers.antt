@@ -1,0 +1,9 @@
+-- `tick::clock::growth` meets its contract.
+-- Assumes nothing.
+use borrow.Author.Rules.{rules}
+use Rattle.rules.specs.Tick.{growth}
+use Rattle.tick.proofs.clock.growth.Goals as goal
+
+pub returns : goal.returns
+unfolding growth
+returns c = rw c.hundredths.ensures
