@@ -2,7 +2,6 @@
 -- Assumes nothing.
 use mathlib.Core.Path.{◌≡◌, sym, ap, ◌∙◌}
 use mathlib.Core.Bool.{Bool, true, false}
-use borrow.Author.Rules.{rules}
 use Rattle.rules.specs.Tree.{tree_fault}
 use Rattle.rules.specs.Refusals.{is_fault}
 use Rattle.rules.specs.Entries.{tree_verdict}

@@ -1,7 +1,6 @@
 -- `faults::fault` meets its contract: the count is judged first, so that every node has a place.
 -- Assumes nothing.
 use native.Mathlib.Omega.{arith}
-use borrow.Author.Rules.{rules}
 use Rattle.tree.proofs.First.{too_few, too_many, in_range}
 use Rattle.tree.proofs.faults.fault.Goals as goal
 

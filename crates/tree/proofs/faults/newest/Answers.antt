@@ -1,7 +1,6 @@
 -- `faults::newest` meets its contract: the last node, by the same test as every node of a whole tree.
 -- Assumes nothing.
 use native.Mathlib.Omega.{arith}
-use borrow.Author.Rules.{rules}
 use Rattle.tree.proofs.First.{climbs_before, newest_at}
 use Rattle.tree.proofs.faults.newest.Goals as goal
 

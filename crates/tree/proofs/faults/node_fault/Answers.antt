@@ -2,8 +2,6 @@
 -- Assumes nothing.
 use mathlib.Core.Path.{sym, ◌∙◌}
 use native.Mathlib.Omega.{arith}
-use borrow.Author.Rules.{rules}
-use borrow.Author.Tests.{not-true, not-false}
 use Rattle.tree.proofs.First.{parent_fault, climbs_more, weight_fault, level_fault, no_fault}
 use Rattle.tree.proofs.faults.node_fault.Goals as goal
 

@@ -1,12 +1,9 @@
 -- `nodes::leaves_in` meets its contract: at the loop's head are the leaves of the tree that ends before the node.
 -- Assumes nothing.
-use mathlib.Core.Path.{◌≡◌}
-use mathlib.Core.List.{List}
-use Prim.Native.Nat.{ℕ, ◌-◌, ◌≤◌, ◌<◌}
+use Prim.Native.Nat.{◌<◌}
 use native.Mathlib.Omega.{arith}
 use borrow.Author.Rules.{rules}
 use lib.ListN.{get_or}
-use Rattle.rules.specs.Tree.{leaves_of}
 use Rattle.tree.specs.View.{tree_of, Climbs}
 use Rattle.tree.proofs.View.{last_at}
 use Rattle.tree.proofs.Cut.{no_leaves, leaves_cut, leaves_whole}

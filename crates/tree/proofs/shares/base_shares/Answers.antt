@@ -110,29 +110,29 @@ loop-n-init c =
     )
 
 pub offset_bounds-held-parent : goal.offset_bounds-held-parent
-offset_bounds-held-parent c = 
+offset_bounds-held-parent c =
     omega (
       arith,
       parent_small c.requires.0 c.requires.1 c.ranges.active.fits c.active_nodes-nodes.ensures c.loop-n.n c.loop-n.invariant.0 (sym c.has.ensures ∙ c.if-has.true) c.wide-parent.ensures,
     )
 
 pub bounds-held-parent : goal.bounds-held-parent
-bounds-held-parent c = 
+bounds-held-parent c =
     parent_small c.requires.0 c.requires.1 c.ranges.active.fits c.active_nodes-nodes.ensures c.loop-n.n c.loop-n.invariant.0 (sym c.has.ensures ∙ c.if-has.true) c.wide-parent.ensures
 
 pub offset_bounds-sums-parent : goal.offset_bounds-sums-parent
-offset_bounds-sums-parent c = 
+offset_bounds-sums-parent c =
     omega (
       arith,
       parent_small c.requires.0 c.requires.1 c.ranges.active.fits c.active_nodes-nodes.ensures c.loop-n.n c.loop-n.invariant.0 (sym c.has.ensures ∙ c.if-has.true) c.wide-parent.ensures,
     )
 
 pub bounds-sums-parent : goal.bounds-sums-parent
-bounds-sums-parent c = 
+bounds-sums-parent c =
     parent_small c.requires.0 c.requires.1 c.ranges.active.fits c.active_nodes-nodes.ensures c.loop-n.n c.loop-n.invariant.0 (sym c.has.ensures ∙ c.if-has.true) c.wide-parent.ensures
 
 pub portion-share-requires : goal.portion-share-requires
-portion-share-requires c = 
+portion-share-requires c =
     asks c.requires.0 c.requires.1 c.ranges.active.fits c.active_nodes-nodes.ensures c.loop-n.n c.loop-n.invariant.0
     (sym c.has.ensures ∙ c.if-has.true) c.wide-parent.ensures c.loop-n.held c.child_sums-sums.result c.loop-n.invariant.2 c.child_sums-sums.ensures
     c.heavy.ensures.1
@@ -143,7 +143,7 @@ base_share-requires c = (
   share_small c.requires.0 c.requires.1 c.ranges.active.fits c.active_nodes-nodes.ensures c.loop-n.n c.loop-n.invariant.0
       (sym c.has.ensures ∙ c.if-has.true) c.wide-parent.ensures
       (share c.requires.0 c.requires.1 c.ranges.active.fits c.active_nodes-nodes.ensures c.loop-n.n c.loop-n.invariant.0
-    (sym c.has.ensures ∙ c.if-has.true) c.wide-parent.ensures c.loop-n.held c.child_sums-sums.result c.loop-n.invariant.2 c.child_sums-sums.ensures c.heavy.ensures.0 c.portion-share.ensures),
+      (sym c.has.ensures ∙ c.if-has.true) c.wide-parent.ensures c.loop-n.held c.child_sums-sums.result c.loop-n.invariant.2 c.child_sums-sums.ensures c.heavy.ensures.0 c.portion-share.ensures),
 )
 
 pub loop-n-smaller : goal.loop-n-smaller
@@ -160,23 +160,23 @@ loop-n-preserved c =
     × Shared t nodes c.if-has.held (n + 1)
     × (c.if-has.shares ≡ swept (table (base_share t active)) (replicate 64 0) (n + 1)) =
     elim c.if-has.branch [
-      then-has w ↦
-        let its : w.portion-share.result ≡ share_among t nodes n = share c.requires.0 c.requires.1 c.ranges.active.fits c.active_nodes-nodes.ensures c.loop-n.n c.loop-n.invariant.0
-    (sym c.has.ensures ∙ w.if-has.true) w.wide-parent.ensures c.loop-n.held c.child_sums-sums.result c.loop-n.invariant.2 c.child_sums-sums.ensures w.heavy.ensures.0 w.portion-share.ensures in
-        rw (w.held-is, w.shares-is) (
-          length-set c.loop-n.held n _ ∙ c.loop-n.invariant.1,
-          puts t nodes c.loop-n.held n c.loop-n.invariant.2 _ (omega (arith, c.loop-n.invariant.1)) its,
-          place_put (base_share t active) (replicate 64 0) c.loop-n.shares n 0 refl c.loop-n.invariant.3 small w.base_share.result
-              (base_is c.requires.0 c.requires.1 c.ranges.active.fits c.active_nodes-nodes.ensures n its w.base_share.ensures),
-        )
-    | else-has w ↦
-        let off : has nodes n ≡ false = sym c.has.ensures ∙ w.if-has.false in
-        rw (w.held-is, w.shares-is) (
-          c.loop-n.invariant.1,
-          idle t nodes c.loop-n.held n c.loop-n.invariant.2 off,
-          place_skip (base_share t active) (replicate 64 0) c.loop-n.shares n 0 refl c.loop-n.invariant.3 small
-              (get_or-replicate 64 n 0 0 small ∙ sym (no_base_share t active n (no_leaf c.requires.0 c.requires.1 c.ranges.active.fits c.active_nodes-nodes.ensures n small off))),
-        )
+      | then-has w ↦
+          let its : w.portion-share.result ≡ share_among t nodes n = share c.requires.0 c.requires.1 c.ranges.active.fits c.active_nodes-nodes.ensures c.loop-n.n c.loop-n.invariant.0
+          (sym c.has.ensures ∙ w.if-has.true) w.wide-parent.ensures c.loop-n.held c.child_sums-sums.result c.loop-n.invariant.2 c.child_sums-sums.ensures w.heavy.ensures.0 w.portion-share.ensures in
+          rw (w.held-is, w.shares-is) (
+            length-set c.loop-n.held n _ ∙ c.loop-n.invariant.1,
+            puts t nodes c.loop-n.held n c.loop-n.invariant.2 _ (omega (arith, c.loop-n.invariant.1)) its,
+            place_put (base_share t active) (replicate 64 0) c.loop-n.shares n 0 refl c.loop-n.invariant.3 small w.base_share.result
+                (base_is c.requires.0 c.requires.1 c.ranges.active.fits c.active_nodes-nodes.ensures n its w.base_share.ensures),
+          )
+      | else-has w ↦
+          let off : has nodes n ≡ false = sym c.has.ensures ∙ w.if-has.false in
+          rw (w.held-is, w.shares-is) (
+            c.loop-n.invariant.1,
+            idle t nodes c.loop-n.held n c.loop-n.invariant.2 off,
+            place_skip (base_share t active) (replicate 64 0) c.loop-n.shares n 0 refl c.loop-n.invariant.3 small
+                (get_or-replicate 64 n 0 0 small ∙ sym (no_base_share t active n (no_leaf c.requires.0 c.requires.1 c.ranges.active.fits c.active_nodes-nodes.ensures n small off))),
+          )
     ] in
     (search rules, step.0, step.1, step.2, omega arith)
 

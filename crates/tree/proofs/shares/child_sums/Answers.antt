@@ -88,8 +88,7 @@ bounds-sums-parent-then-has c =
 pub loop-node-preserved-then-has : goal.loop-node-preserved-then-has
 loop-node-preserved-then-has c =
     let a = c.args in
-    let k = child a.count a.parents.now a.weights.now c.requires c.loop-node.node c.loop-node-test.true (sym c.has.ensures ∙ c.if-has.true) c.wide-parent.ensures in
-    (
+    let k = child a.count a.parents.now a.weights.now c.requires c.loop-node.node c.loop-node-test.true (sym c.has.ensures ∙ c.if-has.true) c.wide-parent.ensures in (
       search rules,
       length-set c.loop-node.sums c.wide-parent.result _ ∙ c.loop-node.invariant.1,
       adds a.count a.parents.now a.weights.now c.requires c.loop-node.node c.loop-node-test.true c.loop-node.invariant.0 c.loop-node.sums

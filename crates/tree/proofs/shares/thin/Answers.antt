@@ -5,7 +5,6 @@ use mathlib.Core.Bool.{true}
 use mathlib.Core.List.{List}
 use Prim.Native.Nat.{ℕ}
 use native.Mathlib.Omega.{arith}
-use borrow.Author.Rules.{rules}
 use Rattle.rules.specs.Words.{has, set_of}
 use Rattle.rules.specs.Tree.{leaves_of, is_active, share_of}
 use Rattle.rules.specs.declared.tree.Tree.{Tree}
@@ -14,7 +13,7 @@ use Rattle.sets.specs.Visit.{LeftOf, all_left, visited, fewer_left}
 use Rattle.rules.specs.Invariant.{SoundTree, Within}
 use Rattle.tree.specs.View.{tree_of, leaves_in, Lit}
 use Rattle.tree.proofs.View.{sound_climbs}
-use Rattle.tree.proofs.Leaves.{leaf_asks, leaf_share, Fair, leaves_only, leaves_fit, fair_starts, fair_next, thin_found, none_thin}
+use Rattle.tree.proofs.Leaves.{leaf_asks, leaf_share, leaves_only, leaves_fit, fair_starts, fair_next, thin_found, none_thin}
 use Rattle.tree.proofs.shares.thin.Goals as goal
 
 -- at the loop's head, the lowest of the leaves that are left

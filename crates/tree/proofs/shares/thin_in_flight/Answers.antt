@@ -6,16 +6,15 @@ use mathlib.Core.List.{List}
 use Prim.Native.Nat.{ℕ}
 use native.Mathlib.Omega.{arith}
 use lib.ListN.{get_or}
-use borrow.Author.Rules.{rules}
 use Rattle.rules.specs.Words.{has}
 use Rattle.rules.specs.Tree.{leaves_of, share_of, base_shares}
 use Rattle.rules.specs.Invariant.{SoundTree}
 use Rattle.rules.specs.declared.tree.Tree.{Tree}
 use Rattle.rules.proofs.Laws.Shares.{base_share_is}
 use Rattle.rules.proofs.Laws.Resharing.{base_shares_each}
-use Rattle.sets.specs.Visit.{LeftOf, all_left, visited, fewer_left}
+use Rattle.sets.specs.Visit.{all_left, visited, fewer_left}
 use Rattle.tree.proofs.View.{sound_climbs}
-use Rattle.tree.proofs.Leaves.{Fair, leaves_only, leaves_fit, fair_starts, fair_next, thin_found, none_thin}
+use Rattle.tree.proofs.Leaves.{leaves_only, leaves_fit, fair_starts, fair_next, thin_found, none_thin}
 use Rattle.tree.proofs.shares.thin_in_flight.Goals as goal
 
 -- each leaf's share is in its place

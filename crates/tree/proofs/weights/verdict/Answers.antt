@@ -4,8 +4,6 @@ use mathlib.Core.Path.{◌≡◌, sym, ◌∙◌}
 use mathlib.Core.Bool.{Bool, true, false, ◌&&◌}
 use Prim.Native.Nat.{ℕ, ◌<◌}
 use lib.Dec.{ltb}
-use borrow.Author.Rules.{rules}
-use borrow.Author.Tests.{not-true, not-false}
 use Rattle.rules.specs.Tree.{weight_in_range, is_thin, is_below_root, with_weight}
 use Rattle.rules.specs.Refusals.{first_of, weight_checks}
 use Rattle.rules.specs.Invariant.{SoundTree}
