@@ -12,5 +12,4 @@ returns-then-count-gt-NODES_MOST c = too_many c.args.tree (omega arith)
 
 pub returns : goal.returns
 returns c =
-    let at = c in
-    in_range at.args.tree (omega arith) (omega arith) c.first_fault.ensures
+    in_range c.args.tree (omega arith) (omega arith) c.first_fault.ensures

@@ -91,6 +91,38 @@ module _ {t : Tree} (sound : SoundTree t) {active nodes : ℕ} (inside : Within 
       share : {w r : ℕ} → w ≡ get_or t.weights n 0 → r ≡ floor_of (get_or held q 0 * w) (get_or sums q 0) → r ≡ share_among t nodes n
       share f g = share_stepped child above_is f sum_is g
 
+-- above the needs that a lie about it may leave true: the first error is what is false
+pub loop-n-preserved : goal.loop-n-preserved
+loop-n-preserved c =
+    let t = c.args.tree in
+    let active = c.args.active in
+    let nodes = c.active_nodes-nodes.result in
+    let n = c.loop-n.n in
+    let small : n < 64 = omega (arith, c.loop-n-test.true, c.requires.0.most) in
+    let step : (length c.if-has.held ≡ 64)
+    × Shared t nodes c.if-has.held (n + 1)
+    × (c.if-has.shares ≡ swept (table (base_share t active)) (replicate 64 0) (n + 1)) =
+    elim c.if-has.branch [
+      | then-has w ↦
+          let its : w.portion-share.result ≡ share_among t nodes n = share c.requires.0 c.requires.1 c.ranges.active.fits c.active_nodes-nodes.ensures c.loop-n.n c.loop-n.invariant.0
+          (sym c.has.ensures ∙ w.if-has.true) w.wide-parent.ensures c.loop-n.held c.child_sums-sums.result c.loop-n.invariant.2 c.child_sums-sums.ensures w.heavy.ensures.0 w.portion-share.ensures in
+          rw (w.held-is, w.shares-is) (
+            length-set c.loop-n.held n _ ∙ c.loop-n.invariant.1,
+            puts t nodes c.loop-n.held n c.loop-n.invariant.2 _ (omega (arith, c.loop-n.invariant.1)) its,
+            place_put (base_share t active) (replicate 64 0) c.loop-n.shares n 0 refl c.loop-n.invariant.3 small w.base_share.result
+                (base_is c.requires.0 c.requires.1 c.ranges.active.fits c.active_nodes-nodes.ensures n its w.base_share.ensures),
+          )
+      | else-has w ↦
+          let off : has nodes n ≡ false = sym c.has.ensures ∙ w.if-has.false in
+          rw (w.held-is, w.shares-is) (
+            c.loop-n.invariant.1,
+            idle t nodes c.loop-n.held n c.loop-n.invariant.2 off,
+            place_skip (base_share t active) (replicate 64 0) c.loop-n.shares n 0 refl c.loop-n.invariant.3 small
+                (get_or-replicate 64 n 0 0 small ∙ sym (no_base_share t active n (no_leaf c.requires.0 c.requires.1 c.ranges.active.fits c.active_nodes-nodes.ensures n small off))),
+          )
+    ] in
+    (search rules, step.0, step.1, step.2, omega arith)
+
 pub active_nodes-nodes-requires : goal.active_nodes-nodes-requires
 active_nodes-nodes-requires c = record { weights = c.args.tree.weights; sound = c.requires.0; within = c.requires.1 }
 
@@ -148,37 +180,6 @@ base_share-requires c = (
 
 pub loop-n-smaller : goal.loop-n-smaller
 loop-n-smaller c = let l : c.loop-n.n < 64 = omega (arith, c.loop-n-test.true, c.requires.0.most) in omega arith
-
-pub loop-n-preserved : goal.loop-n-preserved
-loop-n-preserved c =
-    let t = c.args.tree in
-    let active = c.args.active in
-    let nodes = c.active_nodes-nodes.result in
-    let n = c.loop-n.n in
-    let small : n < 64 = omega (arith, c.loop-n-test.true, c.requires.0.most) in
-    let step : (length c.if-has.held ≡ 64)
-    × Shared t nodes c.if-has.held (n + 1)
-    × (c.if-has.shares ≡ swept (table (base_share t active)) (replicate 64 0) (n + 1)) =
-    elim c.if-has.branch [
-      | then-has w ↦
-          let its : w.portion-share.result ≡ share_among t nodes n = share c.requires.0 c.requires.1 c.ranges.active.fits c.active_nodes-nodes.ensures c.loop-n.n c.loop-n.invariant.0
-          (sym c.has.ensures ∙ w.if-has.true) w.wide-parent.ensures c.loop-n.held c.child_sums-sums.result c.loop-n.invariant.2 c.child_sums-sums.ensures w.heavy.ensures.0 w.portion-share.ensures in
-          rw (w.held-is, w.shares-is) (
-            length-set c.loop-n.held n _ ∙ c.loop-n.invariant.1,
-            puts t nodes c.loop-n.held n c.loop-n.invariant.2 _ (omega (arith, c.loop-n.invariant.1)) its,
-            place_put (base_share t active) (replicate 64 0) c.loop-n.shares n 0 refl c.loop-n.invariant.3 small w.base_share.result
-                (base_is c.requires.0 c.requires.1 c.ranges.active.fits c.active_nodes-nodes.ensures n its w.base_share.ensures),
-          )
-      | else-has w ↦
-          let off : has nodes n ≡ false = sym c.has.ensures ∙ w.if-has.false in
-          rw (w.held-is, w.shares-is) (
-            c.loop-n.invariant.1,
-            idle t nodes c.loop-n.held n c.loop-n.invariant.2 off,
-            place_skip (base_share t active) (replicate 64 0) c.loop-n.shares n 0 refl c.loop-n.invariant.3 small
-                (get_or-replicate 64 n 0 0 small ∙ sym (no_base_share t active n (no_leaf c.requires.0 c.requires.1 c.ranges.active.fits c.active_nodes-nodes.ensures n small off))),
-          )
-    ] in
-    (search rules, step.0, step.1, step.2, omega arith)
 
 pub returns : goal.returns
 unfolding base_shares
