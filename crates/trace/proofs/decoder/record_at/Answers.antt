@@ -1,10 +1,8 @@
 -- `trace::decoder::record_at` meets its contract: each kind's record is made of its layout's fields.
 -- Assumes nothing.
-use mathlib.Core.Path.{◌≡◌}
 use native.Mathlib.Omega.{arith}
 use Rattle.rules.specs.Trace.{layout, fields_from, record_of}
 use Rattle.trace.proofs.Fields.{last_kind, weighed_fields}
-use borrow.Author.Rules.{rules}
 use Rattle.trace.proofs.decoder.record_at.Goals as goal
 
 pub bounds-trace-body : goal.bounds-trace-body

@@ -6,7 +6,6 @@ use native.Mathlib.Omega.{arith}
 use Rattle.rules.specs.Trace.{layout, fields_of, body_of}
 use Rattle.rules.specs.declared.trace.Record.TheVariants.{Node, Weight}
 use Rattle.trace.proofs.Laid.{laid_none, body_laid_lem}
-use borrow.Author.Rules.{rules}
 use Rattle.trace.proofs.encoder.put_body.Goals as goal
 
 pub put-requires : goal.put-requires
