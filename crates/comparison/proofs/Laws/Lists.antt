@@ -11,9 +11,9 @@ use Rattle.rules.proofs.Laws.Pieces.{same_with_more}
 use Rattle.rules.specs.declared.trace.Record.{Record}
 use Rattle.rules.specs.declared.trace.Read.TheVariants.{Found}
 use Rattle.comparison.specs.Compare.{same_bytes, between}
-use Rattle.comparison.specs.Laws.Steps.{WholeAt}
-use Rattle.comparison.specs.Laws.Records.{Records, joined, ends_in, likeness_in}
-use Rattle.comparison.specs.Laws.Records.Records.{none_left, one_more}
+use Rattle.comparison.proofs.Laws.Steps.{WholeAt}
+use Rattle.comparison.proofs.Laws.Records.{Records, joined, ends_in, likeness_in}
+use Rattle.comparison.proofs.Laws.Records.Records.{none_left, one_more}
 use Rattle.comparison.specs.declared.Ends.{Ends}
 use Rattle.comparison.specs.declared.Ends.TheVariants.{First as EndsFirst, Second as EndsSecond, Neither}
 use Rattle.comparison.specs.declared.Likeness.TheVariants.{Equal, Prefix}

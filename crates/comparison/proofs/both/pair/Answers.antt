@@ -11,10 +11,9 @@ use lib.ListN.{length, get_or, take, drop}
 use borrow.Author.Tests.{ne_eqb}
 use Rattle.rules.specs.Trace.{total, layout}
 use Rattle.comparison.specs.Compare.{same_bytes, between, step_at}
-use Rattle.comparison.specs.Laws.Steps.{WholeAt, whole_at, pair_step}
+use Rattle.comparison.proofs.Laws.Steps.{WholeAt, whole_at, pair_step}
 use Rattle.comparison.specs.declared.Step.TheVariants.{Same, Differs}
-use Rattle.comparison.proofs.both.pair.Statement.{statement}
-use Rattle.comparison.proofs.both.pair.Tie as tie
+use Rattle.comparison.proofs.both.pair.Goals as goal
 
 module _ {first : List ℕ} {p k p₁ : ℕ} {second : List ℕ} {q l q₁ : ℕ} (v : WholeAt first p k p₁) (w : WholeAt second q l q₁) where
   by_bytes : (b : Bool) → same_bytes (between p p₁ first) (between q q₁ second) ≡ b
@@ -40,32 +39,25 @@ module _ {first : List ℕ} {p k p₁ : ℕ} {second : List ℕ} {q l q₁ : ℕ
   inside : k ≡ l → (p + (p₁ - p) ≤ length first) × (q + (p₁ - p) ≤ length second)
   inside e = (omega (arith, v.onward, v.within), omega (arith, one-length e, w.onward, w.within))
 
-returns : tie.Need-returns
-returns c =
-    let start = c.before.before.before in
-    let v = whole_at _ _ start.requires.0 in
-    let w = whole_at _ _ start.requires.1 in
-    by_bytes v w false (other-kinds v w c.if1.true)
+pub returns-then-k-l : goal.returns-then-k-l
+returns-then-k-l c =
+    let v = whole_at _ _ c.requires.0 in
+    let w = whole_at _ _ c.requires.1 in
+    by_bytes v w false (other-kinds v w c.if-k-l.true)
 
-sub-same-bytes : tie.Need-overflow-sub-same-bytes
-sub-same-bytes c =
-    let v = whole_at _ _ c.before.before.before.requires.0 in
+pub overflow_sub-p1 : goal.overflow_sub-p1
+overflow_sub-p1 c =
+    let v = whole_at _ _ c.requires.0 in
     omega (arith, v.onward)
 
-same-bytes-requires : tie.Need-same-bytes-requires
-same-bytes-requires c κs =
-    let start = c.before.before.before in
-    inside (whole_at _ _ start.requires.0) (whole_at _ _ start.requires.1) c.if1.false
+pub same_bytes-requires : goal.same_bytes-requires
+same_bytes-requires c =
+    inside (whole_at _ _ c.requires.0) (whole_at _ _ c.requires.1) c.if-k-l.false
 
-returns-2 : tie.Need-returns-2
-returns-2 c =
-    let start = c.before.before.before.before.before in
-    by_count (whole_at _ _ start.requires.0) (whole_at _ _ start.requires.1) c.before.before.if1.false true (sym c.if2.true ∙ c.before.same_bytes.ensures)
+pub returns-then-same_bytes : goal.returns-then-same_bytes
+returns-then-same_bytes c =
+    by_count (whole_at _ _ c.requires.0) (whole_at _ _ c.requires.1) c.if-k-l.false true (sym c.if-same_bytes.true ∙ c.same_bytes.ensures)
 
-returns-3 : tie.Need-returns-3
-returns-3 c =
-    let start = c.before.before.before.before.before in
-    by_count (whole_at _ _ start.requires.0) (whole_at _ _ start.requires.1) c.before.before.if1.false false (sym c.if2.false ∙ c.before.same_bytes.ensures)
-
-pub pair_spec : {M : Type 1} → statement M
-pair_spec = tie.close (tie.spec returns sub-same-bytes same-bytes-requires returns-2 returns-3)
+pub returns : goal.returns
+returns c =
+    by_count (whole_at _ _ c.requires.0) (whole_at _ _ c.requires.1) c.if-k-l.false false (sym c.if-same_bytes.false ∙ c.same_bytes.ensures)

@@ -1,6 +1,6 @@
 -- The answer in other words: by the records of both traces, each as its bytes, one beside the other.
 -- Assumes nothing.
-use Rattle.std.specs.Prelude.{◌≡◌, Bool, true, cond, not, ◌&&◌, ◌↔◌, leb, length, get_or, drop}
+use Rattle.std.specs.Prelude.{◌≡◌, Bool, true, cond, not, ◌&&◌, ◌↔◌, leb, length, drop}
 use Rattle.std.proofs.Math.Path.{refl, ap}
 use Rattle.std.proofs.Common.{sym, ◌∙◌, arith, take-append-drop, get_or-take, get_or-drop, drop-drop}
 use Rattle.std.proofs.Math.Bool.{false}
@@ -13,8 +13,9 @@ use Rattle.rules.specs.declared.refusals.Refusal.{Refusal}
 use Rattle.rules.proofs.Laws.Trace.{beyond_is_cut}
 use Rattle.rules.specs.declared.trace.Read.TheVariants.{Refused as Unread}
 use Rattle.comparison.specs.Compare.{extent_at, is_whole, past_of, records_end_from, records_end, error_by, error_in, same_bytes, between, is_pair, else_difference, passed, step_of, concluded, compared_from, compared, error_of, walked, at_start}
-use Rattle.comparison.specs.Laws.Steps.{WholeAt, Extending, each_extent, extent_of_lem, ended_extent, records_end_here, records_end_on, pair_step, first_ends_step, second_ends_step, both_end_step, walk_here, walk_on_lem, walk_on}
-use Rattle.comparison.specs.Laws.Steps.Extending.{stands, over, broken}
+use Rattle.comparison.specs.Theorems.{kind_in}
+use Rattle.comparison.proofs.Laws.Steps.{WholeAt, Extending, each_extent, extent_of_lem, ended_extent, records_end_here, records_end_on, pair_step, first_ends_step, second_ends_step, both_end_step, walk_here, walk_on_lem, walk_on}
+use Rattle.comparison.proofs.Laws.Steps.Extending.{stands, over, broken}
 use Rattle.comparison.specs.declared.Side.{Side}
 use Rattle.comparison.specs.declared.Side.TheVariants.{First, Second}
 use Rattle.comparison.specs.declared.Difference.{Difference}
@@ -152,9 +153,6 @@ module _ (trace : List ℕ) where
       back w = rw (broken_end w.0 w.1, extent_of_lem trace at (Unread x) w.1)
 
 -- ---- the answer by the records: one definition for each of its members
-abbrev pub kind_in : List ℕ → ℕ
-kind_in r = get_or r 0 0
-
 unfoldable pub difference_in : ℕ → ℕ → List (List ℕ) → List (List ℕ) → Difference
 difference_in from n [] ss = Nothing
 difference_in from n (r ∷ rs) [] = Nothing
