@@ -1,11 +1,9 @@
 // The words that a program was started with, of which the first is its own name. A word is bytes, and need not be text.
 ghost use Rattle.std.specs.Prelude.{◌≤◌, length, IfOk};
 
-use crate::descriptor::TOO_LONG;
+use crate::failure;
 use std::env::{Env, FillError};
 use std::io::Error;
-
-const INVALID: i32 = 22;
 
 pub fn count(rt: &impl Env) -> usize {
     let mut first = [0u8; 1];
@@ -23,7 +21,7 @@ pub fn word(rt: &impl Env, place: usize, buf: &mut [u8]) -> Result<usize, Error>
 {
     match rt.arg(place, buf) {
         Ok(count) => Ok(count),
-        Err(FillError::TooLong) => Err(Error::from_raw_os_error(TOO_LONG)),
-        Err(FillError::NotPresent) => Err(Error::from_raw_os_error(INVALID)),
+        Err(FillError::TooLong) => Err(failure::too_long()),
+        Err(FillError::NotPresent) => Err(failure::missing()),
     }
 }

@@ -3,6 +3,7 @@
 // failure is for the caller to say, and the descriptor keeps which it was.
 ghost use Rattle.std.specs.Prelude.{◌+◌, ◌^◌, ◌≤◌, ◌<◌, length};
 
+use crate::failure;
 use std::fs::{File, symlink_metadata};
 use std::io::{Error, ErrorKind, Read, Result, Seek, SeekFrom, Write};
 use std::os::unix::fs::{FileExt, MetadataExt};
@@ -18,15 +19,6 @@ pub const TRIES: u64 = u64::MAX;
 const INPUT: &str = "/dev/fd/0";
 
 const FOR_READING: u32 = 0o400;
-
-// The system's numbers for what can go wrong, where std has no name.
-const NOT_OPENED_ANEW: i32 = 6;
-
-const CLOSED: i32 = 9;
-
-pub(crate) const TOO_LONG: i32 = 36;
-
-const NO_TEXT: i32 = 84;
 
 // What is read from or written to, and why the last call that failed did.
 #[derive(Drop)]
@@ -52,7 +44,7 @@ impl<T> Descriptor<T> {
 // The file of this name, for reading. What is not UTF-8 names none here, since a path is text.
 pub fn open<R: Files>(rt: &R, name: &[u8]) -> Result<Descriptor<R::File>> {
     let Ok(path) = from_utf8(name) else {
-        return Err(Error::from_raw_os_error(NO_TEXT));
+        return Err(failure::no_text());
     };
     Ok(Descriptor::new(File::open(rt, path)?))
 }
@@ -73,7 +65,7 @@ pub fn is_input_open(rt: &impl Files) -> bool {
 // Standard input once more, as a file with a place of its own.
 pub fn open_input<R: Files>(rt: &R) -> Result<Descriptor<R::File>> {
     if !is_input_open(rt) {
-        return Err(Error::from_raw_os_error(CLOSED));
+        return Err(failure::closed());
     }
     Ok(Descriptor::new(File::open(rt, INPUT)?))
 }
@@ -87,16 +79,6 @@ pub fn has_places<F: Seek>(file: &mut Descriptor<F>) -> bool {
             false
         }
     }
-}
-
-// Failed a call since the descriptor is closed, or open for something else?
-pub fn is_closed(why: Error) -> bool {
-    why.raw_os_error() == Some(CLOSED)
-}
-
-// Failed a call since the bytes come only once, as those of a pipe, a terminal or a socket do?
-pub fn comes_once(why: Error) -> bool {
-    why.kind() == ErrorKind::NotSeekable || why.raw_os_error() == Some(NOT_OPENED_ANEW)
 }
 
 // Is a call that failed so worth making again?

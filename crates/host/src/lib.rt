@@ -4,5 +4,6 @@
 
 pub mod arguments;
 pub mod descriptor;
+pub mod failure;
 pub mod report;
 pub mod said;

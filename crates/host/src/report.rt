@@ -18,13 +18,14 @@ pub fn is_asked(rt: &impl Env) -> bool {
     }
 }
 
-// Writes the mark, which is a word and a line feed, behind what is there. The program has closed what it opened: a file of its
-// own may have had the number where the caller gave none.
-pub fn mark(rt: &impl Files, word: &[u8]) {
+// Writes the mark, which is a word and a line feed, behind what is there. Was all of it written? The program has closed what it
+// opened: a file of its own may have had the number where the caller gave none.
+pub fn mark(rt: &impl Files, word: &[u8]) -> bool {
     if !is_open(rt, REPORT, FOR_WRITING) {
-        return;
+        return false;
     }
-    if let Ok(report) = OpenOptions::new().append(true).open(rt, REPORT) {
-        write(&mut Descriptor::new(report), word);
+    match OpenOptions::new().append(true).open(rt, REPORT) {
+        Ok(report) => write(&mut Descriptor::new(report), word) == word.len(),
+        Err(_) => false,
     }
 }
