@@ -1,6 +1,7 @@
 // Compares the traces in the two files that its arguments name; '-' names standard input. The lines go to standard output, and
-// what goes wrong is one line on standard error. A first argument '--report' asks for a mark that tells how the traces compare.
-// The program only moves bytes; what is compared and what a line says is decided in `comparison`, `listing` and below.
+// what goes wrong is one line on standard error. A first argument '--report' asks for a mark that tells how the traces compare,
+// and for another in place of the line where nobody reads the output any more. The program only moves bytes; what is compared
+// and what a line says is decided in `comparison`, `listing` and below.
 #![tactic(auto)]
 
 mod differences;

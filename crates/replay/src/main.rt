@@ -1,6 +1,7 @@
 // Replays the trace in the file that its one argument names, or on standard input where it names none or '-'. The lines go
 // to standard output, and what goes wrong is one line on standard error. A first argument '--report' asks for a mark where
-// all went well. The program only moves bytes; what a record does and what a line says is decided in `steps` and below.
+// all went well, and for another in place of the line where nobody reads the output any more. The program only moves bytes;
+// what a record does and what a line says is decided in `steps` and below.
 #![tactic(auto)]
 
 mod done;
