@@ -15,7 +15,7 @@ use Rattle.lines.proofs.put_line2.Goals as goal
 first-at : (c : goal.After-slice_known-2-1) →
     let called = c in
     let start = called in
-    Stands (start.args.letter ∷ 32 ∷ (digits start.args.a ++ (32 ∷ []))) start.args.out.now called.put_start-at.new.1.1.1.0 called.put_start-at.result
+    Stands (start.args.letter ∷ 32 ∷ (digits start.args.a ++ (32 ∷ []))) start.args.out.now called.put_start-at.new.out called.put_start-at.result
     × (called.put_start-at.result + length (digits start.args.b) < length start.args.out.now)
 first-at c =
     let called = c in
@@ -29,14 +29,14 @@ done_at : (c : goal.After-slice_known-3-1) →
     let first = second in
     let start = first in
     Stands (line start.args.letter (start.args.a ∷ start.args.b ∷ [])) start.args.out.now
-    (put_back first.put_start-at.new.1.1.1.0 first.put_start-at.result second.put_number-count.new.1.1.0) (first.put_start-at.result + second.put_number-count.result)
+    (put_back first.put_start-at.new.out first.put_start-at.result second.put_number-count.new.out) (first.put_start-at.result + second.put_number-count.result)
 done_at c =
     let second = c in
     let called = second in
     let start = called in
     let first = first-at second in
     let all =
-    stands_more first.0 (digits start.args.b ++ (10 ∷ [])) second.put_number-count.new.1.1.0 second.put_number-count.result second.put_number-count.ensures
+    stands_more first.0 (digits start.args.b ++ (10 ∷ [])) second.put_number-count.new.out second.put_number-count.result second.put_number-count.ensures
     (omega (arith, first.1, rw length-append at second.put_number-count.ensures.0)) in
     rw line_two (simp append_assoc (simp append_assoc at all))
 

@@ -48,7 +48,7 @@ loop-i-preserved c =
     let called = c in
     let turned = called in
     let start = turned in
-    turn turned.loop-i.invariant start.requires.1 turned.loop-i-test.true start.requires.0 called.put_id-at.result called.put_id-at.new.1.1.0
+    turn turned.loop-i.invariant start.requires.1 turned.loop-i-test.true start.requires.0 called.put_id-at.result called.put_id-at.new.out
     called.put_id-at.ensures.0 called.put_id-at.ensures.1
 
 pub shape_of-out : goal.shape_of-out

@@ -54,7 +54,7 @@ pub loop-n-preserved : goal.loop-n-preserved
 loop-n-preserved c =
     let called = c in
     let turned = called in
-    turn turned.loop-n.invariant turned.requires (omega (arith, turned.loop-n-test.true)) called.put_leaf-at.result called.put_leaf-at.new.1.1.1.0
+    turn turned.loop-n.invariant turned.requires (omega (arith, turned.loop-n-test.true)) called.put_leaf-at.result called.put_leaf-at.new.out
     called.put_leaf-at.ensures.0 called.put_leaf-at.ensures.1
 
 pub shape_of-out : goal.shape_of-out
