@@ -102,9 +102,9 @@ bounds-out-1 t c = second-in c.args.n c.args.out.now c.requires c.if-n-lt10.fals
 
 pub put_digits-at-requires : goal.put_digits-at-requires
 put_digits-at-requires t c = (
-      omega (arith, c.decreases, c.if-n-lt100.false),
-      hundredth-room c.args.n c.args.out.now c.requires c.if-n-lt100.false c.ranges.n.fits,
-    )
+  omega (arith, c.decreases, c.if-n-lt100.false),
+  hundredth-room c.args.n c.args.out.now c.requires c.if-n-lt100.false c.ranges.n.fits,
+)
 
 pub bounds-out-at : goal.bounds-out-at
 bounds-out-at t c =

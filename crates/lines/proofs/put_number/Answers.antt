@@ -9,5 +9,5 @@ use Rattle.lines.proofs.put_number.Goals as goal
 pub returns : goal.returns
 returns c =
     let put : Stands (digits c.args.n) c.args.out.now c.put_digits-at.new.out c.put_digits-at.result =
-        record { front = c.put_digits-at.ensures; within = search rules } in
+    record { front = c.put_digits-at.ensures; within = search rules } in
     (stands_byte put (search rules) c.args.end).front

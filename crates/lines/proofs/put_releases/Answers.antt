@@ -2,12 +2,12 @@
 -- Assumes nothing.
 use mathlib.Core.Path.{◌≡◌}
 use mathlib.Core.List.{List, [], ◌∷◌}
-use Prim.Native.Nat.{ℕ, ◌+◌, ◌-◌, ◌*◌, ◌≤◌, ◌<◌}
+use Prim.Native.Nat.{ℕ, ◌+◌, ◌*◌, ◌≤◌, ◌<◌}
 use native.Mathlib.Omega.{arith}
 use lib.ListN.{length, take, get_or}
 use borrow.Author.Rules.{rules}
 use Rattle.rules.specs.Replay.{line, release_lines}
-use Rattle.rules.specs.Buffers.{Written, Stands, rest_of, put_back}
+use Rattle.rules.specs.Buffers.{Written, rest_of, put_back}
 use Rattle.rules.proofs.Laws.Buffers.{stands_none, stands_kept, stands_left, stands_rest, stands_more}
 use Rattle.rules.proofs.Laws.Lines.{releases_next}
 use Rattle.lines.proofs.put_releases.Invariants.{Inv}

@@ -27,8 +27,8 @@ put_number-count-requires c = rw (stands_rest (begun c.args.letter c.args.a c.ar
 pub overflow_add-result : goal.overflow_add-result
 overflow_add-result c =
     let all =
-        done c.args.letter c.args.a c.args.end c.args.out.now c.requires c.put_number-count.result c.put_number-count.new.out
-        c.put_number-count.ensures in
+    done c.args.letter c.args.a c.args.end c.args.out.now c.requires c.put_number-count.result c.put_number-count.new.out
+    c.put_number-count.ensures in
     omega (arith, all.within, c.well_formed.1.1.1.0.0)
 
 pub shape_of-out : goal.shape_of-out
