@@ -6,8 +6,7 @@ use Rattle.lines.proofs.number_of.Goals as goal
 
 pub returns-in-BadTree : goal.returns-in-BadTree
 returns-in-BadTree c =
-    let known = c in
-    c.fault_number.ensures ∙ sym (ap number known.in-BadTree.is)
+    c.fault_number.ensures ∙ sym (ap number c.in-BadTree.is)
 
 pub returns-in-ThinTree : goal.returns-in-ThinTree
 returns-in-ThinTree c = sym (ap number c.in-ThinTree.is)

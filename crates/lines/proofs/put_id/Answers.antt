@@ -6,11 +6,8 @@ use Rattle.lines.proofs.put_id.Goals as goal
 
 pub put_line1-requires : goal.put_line1-requires
 put_line1-requires c =
-    let start = c in
-    omega (arith, id_line_most start.args.letter start.args.id start.ranges.id.fits)
+    omega (arith, id_line_most c.args.letter c.args.id c.ranges.id.fits)
 
 pub returns : goal.returns
 returns c =
-    let called = c in
-    let start = called in
-    (called.put_line1.ensures, omega (arith, id_line_most start.args.letter start.args.id start.ranges.id.fits, called.put_line1.ensures.0))
+    (c.put_line1.ensures, omega (arith, id_line_most c.args.letter c.args.id c.ranges.id.fits, c.put_line1.ensures.0))

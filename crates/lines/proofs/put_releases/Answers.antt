@@ -40,16 +40,12 @@ slice_bounds-put_id-start c = stands_left c.loop-i.invariant.front
 
 pub put_id-at-requires : goal.put_id-at-requires
 put_id-at-requires c =
-    let head = c in
-    asked head.loop-i.invariant head.requires.1 c.loop-i-test.true
+    asked c.loop-i.invariant c.requires.1 c.loop-i-test.true
 
 pub loop-i-preserved : goal.loop-i-preserved
 loop-i-preserved c =
-    let called = c in
-    let turned = called in
-    let start = turned in
-    turn turned.loop-i.invariant start.requires.1 turned.loop-i-test.true start.requires.0 called.put_id-at.result called.put_id-at.new.out
-    called.put_id-at.ensures.0 called.put_id-at.ensures.1
+    turn c.loop-i.invariant c.requires.1 c.loop-i-test.true c.requires.0 c.put_id-at.result c.put_id-at.new.out
+    c.put_id-at.ensures.0 c.put_id-at.ensures.1
 
 pub shape_of-out : goal.shape_of-out
 shape_of-out c = stands_kept c.loop-i.invariant.front
