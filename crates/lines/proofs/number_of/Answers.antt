@@ -1,6 +1,6 @@
 -- `lines::number_of` meets its contract: each arm answers the number of its own variant, and a fault of the tree its own.
 -- Assumes nothing.
-use mathlib.Core.Path.{sym, ap, ◌∙◌}
+use Rattle.std.proofs.Common.{sym, ap, ◌∙◌}
 use Rattle.rules.specs.Refusals.{number}
 use Rattle.lines.proofs.number_of.Goals as goal
 

@@ -1,6 +1,6 @@
 -- `lines::put_id` meets its contract: an id has at most ten digits.
 -- Assumes nothing.
-use native.Mathlib.Omega.{arith}
+use Rattle.std.proofs.Common.{arith}
 use Rattle.rules.proofs.Laws.Lines.{id_line_most}
 use Rattle.lines.proofs.put_id.Goals as goal
 

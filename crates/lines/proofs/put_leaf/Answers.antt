@@ -1,8 +1,6 @@
 -- `lines::put_leaf` meets its contract: the line of an active leaf, and of another none.
 -- Assumes nothing.
-use mathlib.Core.Path.{◌≡◌, sym, ◌∙◌}
-use native.Mathlib.Omega.{arith}
-use mathlib.Core.Bool.{true, false}
+use Rattle.std.proofs.Common.{◌≡◌, sym, ◌∙◌, arith, true, false}
 use Rattle.rules.specs.Words.{has}
 use Rattle.rules.proofs.Laws.Buffers.{stands_none}
 use Rattle.rules.proofs.Laws.Lines.{share_line_most}

@@ -1,6 +1,6 @@
 -- `lines::put_line1` meets its contract: its one number is ended by the line feed.
 -- Assumes nothing.
-use native.Mathlib.Omega.{arith}
+use Rattle.std.proofs.Common.{arith}
 use Rattle.rules.proofs.Laws.Lines.{line_one, line_one_length}
 use Rattle.lines.proofs.put_line1.Goals as goal
 

@@ -3,7 +3,7 @@
 use Rattle.std.proofs.Common.{List, [], ◌∷◌, ◌++◌, ℕ, ◌+◌, ◌≤◌, ◌<◌, length, arith, length-append, append_assoc}
 use Rattle.rules.specs.Replay.{digits, line}
 use Rattle.rules.specs.Buffers.{Written, Stands, rest_of, put_back}
-use Rattle.rules.proofs.Laws.Buffers.{stands_left, stands_rest, stands_more}
+use Rattle.rules.proofs.Laws.Buffers.{stands_rest, stands_more}
 use Rattle.rules.proofs.Laws.Lines.{line_two, line_two_length}
 use Rattle.lines.proofs.put_line2.Goals as goal
 
@@ -25,16 +25,6 @@ module _ (letter a b : ℕ) (o₀ : List ℕ) (room : length (line letter (a ∷
 pub put_start-at-requires : goal.put_start-at-requires
 put_start-at-requires c = omega (arith, line_two_length c.args.letter c.args.a c.args.b, c.requires)
 
-pub slice_bounds-put_number-count : goal.slice_bounds-put_number-count
-slice_bounds-put_number-count c =
-    stands_left
-    (first c.args.letter c.args.a c.args.b c.args.out.now c.requires c.put_start-at.result c.put_start-at.new.out c.put_start-at.ensures)
-
-pub slice_bounds-put_number-start : goal.slice_bounds-put_number-start
-slice_bounds-put_number-start c =
-    stands_left
-    (first c.args.letter c.args.a c.args.b c.args.out.now c.requires c.put_start-at.result c.put_start-at.new.out c.put_start-at.ensures)
-
 pub put_number-count-requires : goal.put_number-count-requires
 put_number-count-requires c =
     let there =
@@ -44,13 +34,6 @@ put_number-count-requires c =
     left c.args.letter c.args.a c.args.b c.args.out.now c.requires c.put_start-at.result c.put_start-at.new.out
     c.put_start-at.ensures in
     rw (stands_rest there) (omega (arith, room))
-
-pub overflow_add-result : goal.overflow_add-result
-overflow_add-result c =
-    let all =
-    done c.args.letter c.args.a c.args.b c.args.out.now c.requires c.put_start-at.result c.put_start-at.new.out
-    c.put_start-at.ensures c.put_number-count.result c.put_number-count.new.out c.put_number-count.ensures in
-    omega (arith, all.within, c.well_formed.1.1.1.0.0)
 
 pub returns : goal.returns
 returns c =

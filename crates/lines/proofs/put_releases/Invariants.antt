@@ -1,8 +1,6 @@
 -- `lines::put_releases` meets its contract. The invariant: the first i ids stand at the front, in at most 13 bytes each.
 -- Assumes nothing.
-use mathlib.Core.List.{List}
-use Prim.Native.Nat.{ℕ, ◌-◌, ◌*◌, ◌≤◌}
-use lib.ListN.{take}
+use Rattle.std.proofs.Common.{List, ℕ, ◌-◌, ◌*◌, ◌≤◌, take}
 use Rattle.rules.specs.Replay.{release_lines}
 use Rattle.rules.specs.Buffers.{Stands}
 use Rattle.lines.proofs.put_releases.Given as goal

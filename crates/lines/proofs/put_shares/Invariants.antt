@@ -1,7 +1,6 @@
 -- `lines::put_shares` meets its contract. The invariant: the leaves below n stand at the front, in at most 16 bytes each.
 -- Assumes nothing.
-use mathlib.Core.List.{List}
-use Prim.Native.Nat.{ℕ, ◌-◌, ◌*◌, ◌≤◌, ◌<◌}
+use Rattle.std.proofs.Common.{List, ℕ, ◌-◌, ◌*◌, ◌≤◌, ◌<◌}
 use Rattle.rules.specs.Buffers.{Stands}
 use Rattle.rules.specs.Replay.{share_lines_to}
 use Rattle.lines.proofs.put_shares.Given as goal

@@ -1,9 +1,9 @@
 -- `lines::put_start` meets its contract: the number goes behind the letter and a blank.
 -- Assumes nothing.
-use Rattle.std.proofs.Common.{List, [], ◌∷◌, ◌++◌, ℕ, ◌+◌, ◌<◌, length, set, arith, length-set, length-append}
+use Rattle.std.proofs.Common.{List, [], ◌∷◌, ◌++◌, ℕ, ◌+◌, ◌<◌, length, set, arith, length-append}
 use Rattle.rules.specs.Replay.{digits}
 use Rattle.rules.specs.Buffers.{Written, Stands, rest_of, put_back}
-use Rattle.rules.proofs.Laws.Buffers.{stands_kept, stands_rest, stands_more, stands_byte, stands_first}
+use Rattle.rules.proofs.Laws.Buffers.{stands_rest, stands_more, stands_byte, stands_first}
 use Rattle.lines.proofs.put_start.Goals as goal
 
 -- once the letter and the blank are written, and the number behind them
@@ -15,27 +15,8 @@ module _ (letter a end : ℕ) (o₀ : List ℕ) (room : 2 + length (digits a) < 
       → Stands (letter ∷ 32 ∷ (digits a ++ (end ∷ []))) o₀ (put_back (set (set o₀ 0 letter) 1 32) 2 ys) (2 + r)
   done r ys w = stands_more begun (digits a ++ (end ∷ [])) ys r w (omega (arith, room, rw length-append at w.0))
 
-pub slice_bounds-put_number-count : goal.slice_bounds-put_number-count
-slice_bounds-put_number-count c = simp length-set (omega arith)
-
-pub slice_bounds-put_number-start : goal.slice_bounds-put_number-start
-slice_bounds-put_number-start c = simp length-set (omega arith)
-
 pub put_number-count-requires : goal.put_number-count-requires
 put_number-count-requires c = rw (stands_rest (begun c.args.letter c.args.a c.args.end c.args.out.now c.requires)) (omega arith)
-
-pub overflow_add-result : goal.overflow_add-result
-overflow_add-result c =
-    let all =
-    done c.args.letter c.args.a c.args.end c.args.out.now c.requires c.put_number-count.result c.put_number-count.new.out
-    c.put_number-count.ensures in
-    omega (arith, all.within, c.well_formed.1.1.1.0.0)
-
-pub shape_of-out : goal.shape_of-out
-shape_of-out c =
-    stands_kept
-    (done c.args.letter c.args.a c.args.end c.args.out.now c.requires c.put_number-count.result c.put_number-count.new.out
-    c.put_number-count.ensures)
 
 pub returns : goal.returns
 returns c =
