@@ -14,5 +14,5 @@ pub rebudget-scaled-requires : goal.rebudget-scaled-requires
 rebudget-scaled-requires c =
     let start = c in
     let a = start.args in
-    let fits : (closed_row a.quiet a.stay a.row).budget.0 * a ≤ 2 ^ 61 + 2 ^ 30 = start.requires in
+    let fits : (closed_row a.quiet a.stay a.row).budget.0 * a.before ≤ 2 ^ 61 + 2 ^ 30 = start.requires in
     rw c.plan_row-closed.ensures (omega arith)
