@@ -11,8 +11,8 @@ use Rattle.rules.proofs.Laws.Pieces.{same_with_more, shifted, shifted_with_less}
 use Rattle.rules.specs.declared.trace.Read.{Read}
 use Rattle.rules.specs.declared.trace.Read.TheVariants.{Found, End as EndOf, Refused as Unread}
 use Rattle.comparison.specs.Compare.{extent_of, extent_at, step_by, step_at, is_pair, error_of}
-use Rattle.comparison.specs.Laws.Steps.{Stepping, each_step, ended_extent}
-use Rattle.comparison.specs.Laws.Steps.Stepping.{same, differ, first_ends, second_ends, both_end, first_broken, second_broken}
+use Rattle.comparison.proofs.Laws.Steps.{Stepping, each_step, ended_extent}
+use Rattle.comparison.proofs.Laws.Steps.Stepping.{same, differ, first_ends, second_ends, both_end, first_broken, second_broken}
 use Rattle.comparison.specs.declared.Error.TheVariants.{Nothing as NoError}
 use Rattle.comparison.specs.declared.Extent.{Extent}
 use Rattle.comparison.specs.declared.Extent.TheVariants.{Whole, End, Refused}

@@ -6,9 +6,9 @@ use Rattle.std.proofs.Math.Path.{refl}
 use Rattle.std.proofs.Common.{sym, ap, ◌∙◌, arith}
 use Rattle.std.proofs.lemmas.Bool.{not-true}
 use Rattle.comparison.specs.Compare.{extent_at, is_whole, past_of, records_end_from, records_end, error_by, error_in}
-use Rattle.comparison.specs.Laws.Steps.{Extending, each_extent, records_end_here, records_end_on}
-use Rattle.comparison.specs.Laws.Steps.Extending.{stands, over, broken}
-use Rattle.comparison.specs.Laws.Records.{none_stands_there}
+use Rattle.comparison.proofs.Laws.Steps.{Extending, each_extent, records_end_here, records_end_on}
+use Rattle.comparison.proofs.Laws.Steps.Extending.{stands, over, broken}
+use Rattle.comparison.proofs.Laws.Records.{none_stands_there}
 use Rattle.comparison.specs.declared.Side.{Side}
 use Rattle.comparison.specs.declared.Extent.{Extent}
 use Rattle.comparison.specs.declared.Extent.TheVariants.{Whole, End, Refused}

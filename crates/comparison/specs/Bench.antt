@@ -1,12 +1,12 @@
--- Numbers of the comparison, worked out by hand. A slip of a rule that they do not refuse is refused by a theorem, or means the same.
+-- Numbers of the comparison, worked out by hand; proofs/Bench shows that they hold. A slip of a rule that they do not refuse
+-- is refused by a theorem, or means the same.
 -- Assumes nothing.
-use Rattle.std.specs.Prelude.{◌≡◌, refl, true, List, [], ◌∷◌, ◌++◌, ℕ}
-use Rattle.rules.specs.Bench.Edges.{Seen, see, all_same}
-use Rattle.rules.specs.Trace.{bytes_of, number_of, is_kind, layout, fields_of, record_of, body_of, record_bytes, fields_from, behind, read_kind, read_at}
+use Rattle.std.specs.Prelude.{List, [], ◌∷◌, ◌++◌, ℕ}
+use Rattle.rules.specs.Bench.Edges.{Seen, see}
 use Rattle.rules.proofs.Laws.Trace.{trace_of}
 use Rattle.rules.specs.declared.trace.Record.{Record}
 use Rattle.rules.specs.declared.trace.Record.TheVariants.{Node, Model, Start, Bio as BioOf, Tick}
-use Rattle.comparison.specs.Compare.{extent_at, records_end_from, records_end, error_in, error_of, step_by, step_at, passed, walk_from, walked, concluded, compared_from, compared, rest_of}
+use Rattle.comparison.specs.Compare.{records_end, step_at, compared, rest_of}
 use Rattle.comparison.specs.Paper.{side_number, answer_values, comparison_paper}
 use Rattle.rules.specs.Refusals.{number}
 use Rattle.comparison.specs.declared.Step.{Step}
@@ -47,7 +47,7 @@ id_eight = trace_of (bench 8)
 abbrev pub eight : List ℕ
 eight = 1 ∷ 2 ∷ 3 ∷ 4 ∷ 5 ∷ 6 ∷ 7 ∷ 8 ∷ []
 
-pub cases : List Seen
+unfoldable pub cases : List Seen
 cases =
     -- "the first trace is document 01's whole case, the second has id 8 and no plan"
     see (asked whole_case id_eight 0) (0 ∷ 1 ∷ 4 ∷ 4 ∷ 4 ∷ 2 ∷ 7 ∷ 2 ∷ [])
@@ -112,7 +112,3 @@ cases =
     -- where whole records end, from any place on
     ∷ see (records_end (6 ∷ 7 ∷ 1 ∷ 2 ∷ 9 ∷ []) 1 ∷ records_end (6 ∷ 7 ∷ 1 ∷ 2 ∷ 9 ∷ []) 4 ∷ records_end (9 ∷ 6 ∷ 6 ∷ []) 1 ∷ records_end (6 ∷ 6 ∷ 7 ∷ []) 0 ∷ []) (4 ∷ 4 ∷ 3 ∷ 2 ∷ [])
     ∷ []
-
-pub comparisons_hold : all_same cases ≡ true
-unfolding cases whole_case id_eight trace_of record_bytes body_of bytes_of layout fields_of extent_at read_at read_kind is_kind behind record_of fields_from number_of records_end_from records_end error_in error_of step_by step_at passed walk_from walked concluded compared_from compared rest_of
-comparisons_hold = refl

@@ -1,5 +1,4 @@
 pub mod Compare
-pub mod Laws
 pub mod Theorems
 pub mod Paper
 pub mod Bench

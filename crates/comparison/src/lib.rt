@@ -2,6 +2,7 @@
 // step, from the beginning of both to where one has no record any more. It is told of errors first, so no answer speaks of a
 // part of a trace. Nothing is copied and nothing is written: both traces are lent, and what is handed back is a part of one.
 #![tactic(auto)]
+
 pub mod answer;
 pub mod both;
 pub mod one;

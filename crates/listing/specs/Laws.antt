@@ -7,8 +7,8 @@ use Prim.Native.Nat.{ℕ, zero, suc, ◌+◌, ◌-◌, ◌≤◌, ◌<◌}
 use Rattle.std.proofs.Math.ListN.{length}
 use Rattle.rules.proofs.Laws.Bools.{true_not_false, is_false, and_left, and_not_left}
 use Rattle.comparison.specs.Compare.{is_pair}
-use Rattle.comparison.specs.Laws.Steps.{Stepping, each_step}
-use Rattle.comparison.specs.Laws.Steps.Stepping.{same, differ, first_ends, second_ends, both_end, first_broken, second_broken}
+use Rattle.comparison.proofs.Laws.Steps.{Stepping, each_step}
+use Rattle.comparison.proofs.Laws.Steps.Stepping.{same, differ, first_ends, second_ends, both_end, first_broken, second_broken}
 use Rattle.comparison.specs.declared.Step.{Step}
 use Rattle.listing.specs.Listing.{line_by, advanced, step_in, Lines, none, before, goes_on, list_from, listed}
 use Rattle.listing.specs.declared.Begins.{Begins}

@@ -10,9 +10,9 @@ use Prim.Native.Nat.{ℕ, zero, suc, ◌+◌, ◌-◌, ◌≤◌}
 use Rattle.std.proofs.Math.ListN.{length, drop}
 use Rattle.rules.proofs.Laws.Bools.{never}
 use Rattle.comparison.specs.Compare.{error_of, between, is_pair, passed, step_of, at_start as walk_start, walk_from, walked, ends_by, likeness_by, concluded, compared_from, compared, longer_by, longer_of, rest_by, rest_of}
-use Rattle.comparison.specs.Laws.Steps.{Stepping, each_step, walk_here, walk_on_lem, walk_on}
-use Rattle.comparison.specs.Laws.Steps.Stepping.{same, differ, first_ends, second_ends, both_end, first_broken, second_broken}
-use Rattle.comparison.specs.Laws.Lists.{same_bytes_are_equal}
+use Rattle.comparison.proofs.Laws.Steps.{Stepping, each_step, walk_here, walk_on_lem, walk_on}
+use Rattle.comparison.proofs.Laws.Steps.Stepping.{same, differ, first_ends, second_ends, both_end, first_broken, second_broken}
+use Rattle.comparison.proofs.Laws.Lists.{same_bytes_are_equal}
 use Rattle.comparison.specs.declared.Ends.{Ends}
 use Rattle.comparison.specs.declared.Likeness.{Likeness}
 use Rattle.comparison.specs.declared.Error.TheVariants.{Nothing as NoError}

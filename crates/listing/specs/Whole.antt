@@ -16,8 +16,8 @@ use Rattle.rules.proofs.Laws.Pieces.{same_with_more, shifted, shifted_with_less}
 use Rattle.rules.specs.declared.trace.Record.{Record}
 use Rattle.rules.specs.declared.trace.Read.TheVariants.{Found}
 use Rattle.comparison.specs.Compare.{between, is_pair}
-use Rattle.comparison.specs.Laws.Steps.{WholeAt, whole_at, extent_of_lem, Stepping, each_step, pair_step}
-use Rattle.comparison.specs.Laws.Steps.Stepping.{same, differ, first_ends, second_ends, both_end, first_broken, second_broken}
+use Rattle.comparison.proofs.Laws.Steps.{WholeAt, whole_at, extent_of_lem, Stepping, each_step, pair_step}
+use Rattle.comparison.proofs.Laws.Steps.Stepping.{same, differ, first_ends, second_ends, both_end, first_broken, second_broken}
 use Rattle.comparison.specs.declared.Extent.{Extent}
 use Rattle.comparison.specs.declared.Extent.TheVariants.{Whole}
 use Rattle.comparison.specs.declared.Step.{Step}

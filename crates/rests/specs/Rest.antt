@@ -10,11 +10,11 @@ use Rattle.rules.specs.declared.trace.Record.{Record}
 use Rattle.rules.specs.declared.trace.Read.{Read}
 use Rattle.rules.specs.declared.trace.Read.TheVariants.{Found, End, Refused as Unread}
 use Rattle.comparison.specs.Compare.{error_in, compared, rest_of}
-use Rattle.comparison.specs.Laws.Steps.{extent_of_lem, whole_at}
-use Rattle.comparison.specs.Laws.Records.{Records, without_error, records_have_no_error}
-use Rattle.comparison.specs.Laws.Records.Records.{none_left, one_more}
-use Rattle.comparison.specs.Laws.Lists.{goes_likewise}
-use Rattle.comparison.specs.Theorems.{no_error, the_rest_makes_the_longer, otherwise_no_rest, prefix_without_error}
+use Rattle.comparison.proofs.Laws.Steps.{extent_of_lem, whole_at}
+use Rattle.comparison.proofs.Laws.Records.{Records, without_error, records_have_no_error}
+use Rattle.comparison.proofs.Laws.Records.Records.{none_left, one_more}
+use Rattle.comparison.proofs.Laws.Lists.{goes_likewise}
+use Rattle.comparison.proofs.Theorems.{no_error, the_rest_makes_the_longer, otherwise_no_rest, prefix_without_error}
 use Rattle.comparison.specs.declared.Side.{Side}
 use Rattle.comparison.specs.declared.Side.TheVariants.{First, Second}
 use Rattle.comparison.specs.declared.Likeness.{Likeness}

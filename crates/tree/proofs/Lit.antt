@@ -109,6 +109,10 @@ pub record Child (count : ℕ) (ps ws : List ℕ) (nodes n q : ℕ) : Type 0 whe
   pub below : n ≡ 0 → ⊥
   pub is : q ≡ get_or ps n 0
 
+pub child_below : (count : ℕ) (ps ws : List ℕ) {nodes : ℕ} → Lit (tree_of count ps ws) nodes → (n : ℕ) → has nodes n ≡ true → (n ≡ 0 → ⊥)
+    → {q : ℕ} → q ≡ get_or ps n 0 → Child count ps ws nodes n q
+child_below count ps ws lit n on below is = record { lit = lit; on = on; below = below; is = is }
+
 module _ {count : ℕ} {ps ws : List ℕ} {nodes n q : ℕ} (c : Child count ps ws nodes n q) where
   abbrev T : Tree
   T = tree_of count ps ws

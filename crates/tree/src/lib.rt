@@ -1,6 +1,7 @@
 // The weight tree: what is wrong with it, which nodes are its leaves and which are active, and the base share of each
 // active leaf. A tree comes in by value; the work is done on its arrays, which are lent, so that no call copies them.
 #![tactic(auto)]
+
 ghost use Rattle.std.specs.Prelude.{◌≡◌, [], ◌<◌};
 ghost use Rattle.rules.specs.Refusals.{verdict_paper, paper_of, tree_checks};
 ghost use Rattle.rules.specs.Entries.{tree_verdict};

@@ -8,8 +8,8 @@ use Rattle.rules.specs.Buffers.{Written}
 use Rattle.comparison.specs.Compare.{step_at}
 use Rattle.rules.specs.Trace.{behind}
 use Rattle.rules.proofs.Laws.Trace.{found_only_whole}
-use Rattle.comparison.specs.Laws.Steps.{WholeAt, Stepping, each_step}
-use Rattle.comparison.specs.Laws.Steps.Stepping.{differ}
+use Rattle.comparison.proofs.Laws.Steps.{WholeAt, Stepping, each_step}
+use Rattle.comparison.proofs.Laws.Steps.Stepping.{differ}
 use Rattle.text.specs.Lines.{differs_room}
 use Rattle.comparison.specs.declared.Step.{Step}
 use Rattle.comparison.specs.declared.Step.TheVariants.{Differs}

@@ -2,7 +2,6 @@
 -- Assumes nothing.
 use mathlib.Core.Path.{◌≡◌, sym, ap, ◌∙◌}
 use mathlib.Core.Bool.{Bool, true, false}
-use borrow.Author.Rules.{rules}
 use Rattle.rules.specs.Tree.{tree_fault}
 use Rattle.rules.specs.Refusals.{is_fault}
 use Rattle.rules.specs.Entries.{tree_verdict}
@@ -21,30 +20,28 @@ module _ (t : Tree) {found : Fault} (e : found ≡ tree_fault t) {b : Bool} (i :
   judged : is_fault (tree_fault t) ≡ b
   judged = sym (i ∙ ap is_fault e)
 
-  is-bad : b ≡ true → Refused (BadTree found) ≡ tree_verdict t
-  is-bad f = rw e (sym (bad_tree t (judged ∙ f)))
+  is_bad : b ≡ true → Refused (BadTree found) ≡ tree_verdict t
+  is_bad f = rw e (sym (bad_tree t (judged ∙ f)))
 
-  is-sound : b ≡ false → SoundTree t
-  is-sound f = sound_tree t (sound_when (tree_fault t) (judged ∙ f))
+  is_sound : b ≡ false → SoundTree t
+  is_sound f = sound_tree t (sound_when (tree_fault t) (judged ∙ f))
 
 pub returns-then-broken : goal.returns-then-broken
 returns-then-broken c = let e =
-    is-bad c.args.tree c.fault-found.ensures c.broken.ensures c.if-broken.true in
+    is_bad c.args.tree c.fault-found.ensures c.broken.ensures c.if-broken.true in
     record { value = e; number = check_on_paper _ e }
 
 pub thin-requires : goal.thin-requires
-thin-requires c = is-sound c.args.tree c.fault-found.ensures c.broken.ensures c.if-broken.false
+thin-requires c = is_sound c.args.tree c.fault-found.ensures c.broken.ensures c.if-broken.false
 
 pub returns-then-thin : goal.returns-then-thin
-returns-then-thin c = let f = c in
-    let t = f.args.tree in
+returns-then-thin c = let t = c.args.tree in
     let e =
-    sym (thin_tree t (judged t f.fault-found.ensures f.broken.ensures ∙ f.if-broken.false) (sym c.thin.ensures ∙ c.if-thin.true)) in
+    sym (thin_tree t (judged t c.fault-found.ensures c.broken.ensures ∙ c.if-broken.false) (sym c.thin.ensures ∙ c.if-thin.true)) in
     record { value = e; number = check_on_paper t e }
 
 pub returns : goal.returns
-returns c = let f = c in
-    let t = f.args.tree in
+returns c = let t = c.args.tree in
     let e =
-    sym (fine_tree t (judged t f.fault-found.ensures f.broken.ensures ∙ f.if-broken.false) (sym c.thin.ensures ∙ c.if-thin.false)) in
+    sym (fine_tree t (judged t c.fault-found.ensures c.broken.ensures ∙ c.if-broken.false) (sym c.thin.ensures ∙ c.if-thin.false)) in
     record { value = e; number = check_on_paper t e }

@@ -14,8 +14,8 @@ use Rattle.rules.proofs.Laws.Trace.{end_at_the_end, found_only_whole}
 use Rattle.rules.specs.declared.trace.Record.{Record}
 use Rattle.rules.specs.declared.trace.Read.{Read}
 use Rattle.rules.specs.declared.trace.Read.TheVariants.{Found, End, Refused}
-use Rattle.comparison.specs.Laws.Records.{Records, without_error}
-use Rattle.comparison.specs.Laws.Records.Records.{none_left, one_more}
+use Rattle.comparison.proofs.Laws.Records.{Records, without_error}
+use Rattle.comparison.proofs.Laws.Records.Records.{none_left, one_more}
 use Rattle.comparison.specs.declared.Side.TheVariants.{First}
 use Rattle.rests.proofs.answer.tell_records.Statement.{statement}
 use Rattle.rests.proofs.answer.tell_records.Tie as tie

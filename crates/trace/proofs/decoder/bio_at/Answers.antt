@@ -1,7 +1,10 @@
 -- `trace::decoder::bio_at` meets its contract: the five places are those of the bio's layout.
 -- Assumes nothing.
-use Prim.Native.Nat.{◌+◌}
-use Rattle.rules.specs.Trace.{layout}
+use Prim.Native.Nat.{ℕ, ◌+◌, ◌≤◌, ◌<◌}
+use mathlib.Core.List.{List}
+use lib.ListN.{length}
+use native.Mathlib.Omega.{arith}
+use Rattle.rules.specs.Trace.{layout, total}
 use Rattle.trace.proofs.Fields.{byte_number, bio_fields}
 use borrow.Author.Rules.{rules}
 use Rattle.trace.proofs.decoder.bio_at.Goals as goal
@@ -26,10 +29,15 @@ pub number-requires-3 : goal.number-requires-3
 unfolding layout
 number-requires-3 c = search rules
 
+-- the two bytes that are read without `number`
+bytes_inside : (l : List ℕ) (body : ℕ) → body + total (layout 4) ≤ length l → (body < length l) × (body + 1 < length l)
+unfolding layout
+bytes_inside l body h = (omega arith, omega arith)
+
 pub returns : goal.returns
 returns c =
-    let start = c in
-    bio_fields start.args.trace.now start.args.body _
-    (byte_number start.args.trace.now start.args.body (search rules))
-    (byte_number start.args.trace.now (start.args.body + 1) (search rules))
+    let inside = bytes_inside c.args.trace.now c.args.body c.requires in
+    bio_fields c.args.trace.now c.args.body _
+    (byte_number c.args.trace.now c.args.body inside.0)
+    (byte_number c.args.trace.now (c.args.body + 1) inside.1)
     c.number.ensures.0 c.number-2.ensures.0 c.number-3.ensures.0

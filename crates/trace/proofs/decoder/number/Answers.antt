@@ -7,7 +7,6 @@ use native.Mathlib.Nat.{lt_of_lt_of_le, sub_self, pow-succ', pow-zero, pow-le-po
 use native.Mathlib.Omega.{arith}
 use lib.Dec.{lit<}
 use lib.ListN.{length, get_or, take, drop}
-use borrow.Author.Rules.{rules}
 use Rattle.rules.specs.Trace.{number_of}
 use Rattle.rules.proofs.Laws.Trace.{number_more}
 use Rattle.trace.proofs.decoder.number.Invariants.{Taken}

@@ -31,7 +31,6 @@ number-requires-6 c = search rules
 
 pub returns : goal.returns
 returns c =
-    let start = c in
-    rates_fields start.args.trace.now start.args.body _ c.number.ensures.0
+    rates_fields c.args.trace.now c.args.body _ c.number.ensures.0
     c.number-2.ensures.0 c.number-3.ensures.0
     c.number-4.ensures.0 c.number-5.ensures.0 c.number-6.ensures.0

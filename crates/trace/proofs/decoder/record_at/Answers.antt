@@ -1,10 +1,8 @@
 -- `trace::decoder::record_at` meets its contract: each kind's record is made of its layout's fields.
 -- Assumes nothing.
-use mathlib.Core.Path.{◌≡◌}
 use native.Mathlib.Omega.{arith}
 use Rattle.rules.specs.Trace.{layout, fields_from, record_of}
 use Rattle.trace.proofs.Fields.{last_kind, weighed_fields}
-use borrow.Author.Rules.{rules}
 use Rattle.trace.proofs.decoder.record_at.Goals as goal
 
 pub bounds-trace-body : goal.bounds-trace-body
@@ -46,8 +44,7 @@ number-requires-in_default c = omega (arith, rw (last_kind c.args.kind c.require
 pub returns-in-1 : goal.returns-in-1
 unfolding layout record_of
 returns-in-1 c =
-    let start = c in
-    rw (c.in-1.is, weighed_fields start.args.trace.now start.args.body (omega (arith, rw c.in-1.is at c.requires.1)) c.number.ensures.0)
+    rw (c.in-1.is, weighed_fields c.args.trace.now c.args.body (omega (arith, rw c.in-1.is at c.requires.1)) c.number.ensures.0)
 
 pub returns-in-2 : goal.returns-in-2
 unfolding record_of
@@ -76,5 +73,4 @@ returns-in-7 c = rw (c.in-7.is, c.number-in-7.ensures.0)
 pub returns-in_default : goal.returns-in_default
 unfolding layout record_of
 returns-in_default c =
-    let start = c in
-    rw ((last_kind c.args.kind c.requires.0 c.in_default.in_default-own.rest), weighed_fields start.args.trace.now start.args.body (omega (arith, rw (last_kind c.args.kind c.requires.0 c.in_default.in_default-own.rest) at c.requires.1)) c.number-in_default.ensures.0)
+    rw ((last_kind c.args.kind c.requires.0 c.in_default.in_default-own.rest), weighed_fields c.args.trace.now c.args.body (omega (arith, rw (last_kind c.args.kind c.requires.0 c.in_default.in_default-own.rest) at c.requires.1)) c.number-in_default.ensures.0)

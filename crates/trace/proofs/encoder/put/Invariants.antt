@@ -1,16 +1,10 @@
 -- `trace::encoder::put` meets its contract. The loop's invariant: the first i bytes of the number are laid, and left is the rest of it.
 -- Assumes nothing.
-use mathlib.Core.Path.{◌≡◌, sym}
+use mathlib.Core.Path.{◌≡◌}
 use mathlib.Core.List.{List}
-use Prim.Native.Nat.{ℕ, ◌+◌, ◌-◌, ◌/◌, ◌%◌, ◌^◌, ◌≤◌, ◌<◌}
-use native.Mathlib.Nat.{pow-zero, div-one}
-use native.Mathlib.Omega.{arith}
-use lib.ListN.{length, set}
-use borrow.Author.Rules.{rules}
+use Prim.Native.Nat.{ℕ, ◌-◌, ◌/◌, ◌^◌, ◌≤◌}
 use Rattle.rules.specs.Trace.{bytes_of}
-use Rattle.rules.proofs.Laws.Trace.{length_bytes}
 use Rattle.trace.specs.Laid.{laid}
-use Rattle.trace.proofs.Laid.{laid_none, laid_length, laid_byte, next_quotient}
 use Rattle.trace.proofs.encoder.put.Given as goal
 
 pub record Put (l : List ℕ) (at width number : ℕ) (lent : List ℕ) (left i : ℕ) : Type 0 where

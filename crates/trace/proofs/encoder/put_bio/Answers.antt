@@ -29,11 +29,5 @@ put-requires-5 c = search rules
 pub returns : goal.returns
 unfolding layout fields_of
 returns c =
-    let fifth = c in
-    let fourth = fifth in
-    let third = fourth in
-    let second = third in
-    let first = second in
-    let start = first in
-    rw (fifth.put-5.ensures, fourth.put-4.ensures, third.put-3.ensures, second.put-2.ensures, first.put.ensures)
-    (body_laid_lem (layout 4) (fields_of (Bio start.args.bio)) 1 start.args.lent.now start.requires)
+    rw (c.put-5.ensures, c.put-4.ensures, c.put-3.ensures, c.put-2.ensures, c.put.ensures)
+    (body_laid_lem (layout 4) (fields_of (Bio c.args.bio)) 1 c.args.lent.now c.requires)

@@ -33,12 +33,5 @@ put-requires-6 c = search rules
 pub returns : goal.returns
 unfolding layout fields_of
 returns c =
-    let sixth = c in
-    let fifth = sixth in
-    let fourth = fifth in
-    let third = fourth in
-    let second = third in
-    let first = second in
-    let start = first in
-    rw (sixth.put-6.ensures, fifth.put-5.ensures, fourth.put-4.ensures, third.put-3.ensures, second.put-2.ensures, first.put.ensures)
-    (body_laid_lem (layout 2) (fields_of (Model start.args.rates)) 1 start.args.lent.now start.requires)
+    rw (c.put-6.ensures, c.put-5.ensures, c.put-4.ensures, c.put-3.ensures, c.put-2.ensures, c.put.ensures)
+    (body_laid_lem (layout 2) (fields_of (Model c.args.rates)) 1 c.args.lent.now c.requires)

@@ -1,7 +1,6 @@
 -- `faults::fault` meets its contract: the count is judged first, so that every node has a place.
 -- Assumes nothing.
 use native.Mathlib.Omega.{arith}
-use borrow.Author.Rules.{rules}
 use Rattle.tree.proofs.First.{too_few, too_many, in_range}
 use Rattle.tree.proofs.faults.fault.Goals as goal
 
@@ -13,5 +12,4 @@ returns-then-count-gt-NODES_MOST c = too_many c.args.tree (omega arith)
 
 pub returns : goal.returns
 returns c =
-    let at = c in
-    in_range at.args.tree (omega arith) (omega arith) c.first_fault.ensures
+    in_range c.args.tree (omega arith) (omega arith) c.first_fault.ensures

@@ -1,13 +1,10 @@
 -- `faults::first_fault` meets its contract: at the loop's head every node before is sound.
 -- Assumes nothing.
-use mathlib.Core.Path.{◌≡◌, refl, sym, ◌∙◌}
-use Prim.Native.Nat.{◌+◌, ◌-◌, ◌≤◌, ◌<◌}
-use native.Mathlib.Omega.{arith}
-use borrow.Author.Rules.{rules}
+use mathlib.Core.Path.{◌≡◌}
+use Prim.Native.Nat.{◌-◌, ◌≤◌, ◌<◌}
 use Rattle.rules.specs.Tree.{fault_to}
 use Rattle.rules.specs.declared.tree.Fault.TheVariants.{Sound}
 use Rattle.tree.specs.View.{tree_of}
-use Rattle.tree.proofs.First.{sound_so_far, stops, goes_on, ended}
 use Rattle.tree.proofs.faults.first_fault.Given as goal
 
 abbrev pub invariant-loop-node : goal.invariant-loop-node

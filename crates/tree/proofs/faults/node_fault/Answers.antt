@@ -2,41 +2,28 @@
 -- Assumes nothing.
 use mathlib.Core.Path.{sym, ◌∙◌}
 use native.Mathlib.Omega.{arith}
-use borrow.Author.Rules.{rules}
-use borrow.Author.Tests.{not-true, not-false}
 use Rattle.tree.proofs.First.{parent_fault, climbs_more, weight_fault, level_fault, no_fault}
 use Rattle.tree.proofs.faults.node_fault.Goals as goal
 
 pub returns-then-node-wide : goal.returns-then-node-wide
 returns-then-node-wide c =
-    let at = c in
-    parent_fault at.args.parents.now at.args.weights.now at.args.node at.requires.1 c.wide.ensures (omega arith)
+    parent_fault c.args.parents.now c.args.weights.now c.args.node c.requires.1 c.wide.ensures (omega arith)
 
 pub returns-then-not-weight_in_range : goal.returns-then-not-weight_in_range
 returns-then-not-weight_in_range c =
-    let w = c in
-    let at = w in
-    weight_fault at.args.parents.now at.args.weights.now at.args.node at.requires.1 w.wide.ensures (omega arith)
+    weight_fault c.args.parents.now c.args.weights.now c.args.node c.requires.1 c.wide.ensures (omega arith)
     (sym c.weight_in_range.ensures ∙ c.if-not-weight_in_range.true)
 
 pub level_of-requires : goal.level_of-requires
 level_of-requires c =
-    let w = c in
-    let at = w in
-    (climbs_more at.args.parents.now at.args.weights.now at.args.node at.requires.1 w.wide.ensures (omega arith) at.requires.0, at.requires.2)
+    (climbs_more c.args.parents.now c.args.weights.now c.args.node c.requires.1 c.wide.ensures (omega arith) c.requires.0, c.requires.2)
 
 pub returns-then-level_of-gt-LEVEL_MOST : goal.returns-then-level_of-gt-LEVEL_MOST
 returns-then-level_of-gt-LEVEL_MOST c =
-    let f = c in
-    let w = f in
-    let at = w in
-    level_fault at.args.parents.now at.args.weights.now at.args.node at.requires.1 w.wide.ensures (omega arith)
-    (sym f.weight_in_range.ensures ∙ f.if-not-weight_in_range.false) c.level_of.ensures.0 (omega arith)
+    level_fault c.args.parents.now c.args.weights.now c.args.node c.requires.1 c.wide.ensures (omega arith)
+    (sym c.weight_in_range.ensures ∙ c.if-not-weight_in_range.false) c.level_of.ensures.0 (omega arith)
 
 pub returns : goal.returns
 returns c =
-    let f = c in
-    let w = f in
-    let at = w in
-    no_fault at.args.parents.now at.args.weights.now at.args.node at.requires.1 w.wide.ensures (omega arith)
-    (sym f.weight_in_range.ensures ∙ f.if-not-weight_in_range.false) c.level_of.ensures.0 (omega arith)
+    no_fault c.args.parents.now c.args.weights.now c.args.node c.requires.1 c.wide.ensures (omega arith)
+    (sym c.weight_in_range.ensures ∙ c.if-not-weight_in_range.false) c.level_of.ensures.0 (omega arith)

@@ -1,16 +1,12 @@
 -- `nodes::active_nodes` meets its contract: at the loop's head are the nodes that the pass has reached.
 -- Assumes nothing.
-use mathlib.Core.Path.{◌≡◌, sym, ◌∙◌}
+use mathlib.Core.Path.{◌≡◌}
 use mathlib.Core.List.{List}
-use Prim.Native.Nat.{ℕ, ◌-◌, ◌≤◌, ◌<◌}
-use native.Mathlib.Omega.{arith}
-use borrow.Author.Rules.{rules}
-use lib.ListN.{get_or}
+use Prim.Native.Nat.{ℕ, ◌≤◌}
 use Rattle.rules.specs.Words.{set_of}
 use Rattle.rules.specs.Invariant.{SoundTree, Within}
 use Rattle.tree.specs.View.{tree_of}
-use Rattle.tree.proofs.View.{parent_at, last_at, sound_climbs}
-use Rattle.tree.proofs.Reach.{reached, pass_starts, pass_adds, pass_skips, pass_ends}
+use Rattle.tree.proofs.Reach.{reached}
 use Rattle.tree.proofs.nodes.active_nodes.Given as goal
 
 abbrev pub invariant-loop-node : goal.invariant-loop-node

@@ -5,9 +5,8 @@ use Rattle.tree.proofs.nodes.leaves.Goals as goal
 
 pub leaves_in-requires : goal.leaves_in-requires
 leaves_in-requires c =
-    let at = c in
-    let t = at.args.tree in
-    (sound_climbs t.count t.parents t.weights at.requires, at.requires.most)
+    let t = c.args.tree in
+    (sound_climbs t.count t.parents t.weights c.requires, c.requires.most)
 
 pub returns : goal.returns
 returns c = c.leaves_in.ensures c.args.tree.weights

@@ -1,12 +1,9 @@
 -- `nodes::leaves_in` meets its contract: at the loop's head are the leaves of the tree that ends before the node.
 -- Assumes nothing.
-use mathlib.Core.Path.{◌≡◌}
-use mathlib.Core.List.{List}
-use Prim.Native.Nat.{ℕ, ◌-◌, ◌≤◌, ◌<◌}
+use Prim.Native.Nat.{◌<◌}
 use native.Mathlib.Omega.{arith}
 use borrow.Author.Rules.{rules}
 use lib.ListN.{get_or}
-use Rattle.rules.specs.Tree.{leaves_of}
 use Rattle.tree.specs.View.{tree_of, Climbs}
 use Rattle.tree.proofs.View.{last_at}
 use Rattle.tree.proofs.Cut.{no_leaves, leaves_cut, leaves_whole}
@@ -18,20 +15,18 @@ loop-node-init c = (search rules, search rules, λ ws. no_leaves (tree_of 1 c.ar
 -- above the needs that a lie about it may leave true: the first error is what is false
 pub loop-node-preserved : goal.loop-node-preserved
 loop-node-preserved c =
-    let l = c in
-    let ps = l.args.parents.now in
-    let up : Climbs ps l.loop-node.node = λ k p q. l.requires.0 k p (omega arith) in (
+    let ps = c.args.parents.now in
+    let up : Climbs ps c.loop-node.node = λ k p q. c.requires.0 k p (omega arith) in (
       search rules,
       search rules,
       λ ws.
-          leaves_cut ps ws l.loop-node.node l.loop-node.invariant.0 up c.wide.ensures (l.loop-node.invariant.2 ws)
+          leaves_cut ps ws c.loop-node.node c.loop-node.invariant.0 up c.wide.ensures (c.loop-node.invariant.2 ws)
           c.insert.ensures c.remove-found.ensures,
     )
 
 pub remove-found-requires : goal.remove-found-requires
 remove-found-requires c =
-    let l = c in
-    let u : get_or l.args.parents.now l.loop-node.node 0 < l.loop-node.node = l.requires.0 l.loop-node.node (search rules) (search rules) in
+    let u : get_or c.args.parents.now c.loop-node.node 0 < c.loop-node.node = c.requires.0 c.loop-node.node (search rules) (search rules) in
     omega (arith, c.wide.ensures)
 
 pub returns : goal.returns

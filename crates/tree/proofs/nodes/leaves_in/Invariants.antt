@@ -3,13 +3,8 @@
 use mathlib.Core.Path.{◌≡◌}
 use mathlib.Core.List.{List}
 use Prim.Native.Nat.{ℕ, ◌-◌, ◌≤◌, ◌<◌}
-use native.Mathlib.Omega.{arith}
-use borrow.Author.Rules.{rules}
-use lib.ListN.{get_or}
 use Rattle.rules.specs.Tree.{leaves_of}
-use Rattle.tree.specs.View.{tree_of, Climbs}
-use Rattle.tree.proofs.View.{last_at}
-use Rattle.tree.proofs.Cut.{no_leaves, leaves_cut, leaves_whole}
+use Rattle.tree.specs.View.{tree_of}
 use Rattle.tree.proofs.nodes.leaves_in.Given as goal
 
 abbrev pub invariant-loop-node : goal.invariant-loop-node

@@ -1,7 +1,6 @@
 -- `shares::base_share` meets its contract.
 -- Assumes nothing.
 use mathlib.Core.Path.{sym, ◌∙◌}
-use borrow.Author.Rules.{rules}
 use Rattle.tree.proofs.shares.base_share.Goals as goal
 
 pub returns-then-has : goal.returns-then-has

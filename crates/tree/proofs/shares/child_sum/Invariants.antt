@@ -1,12 +1,9 @@
 -- `shares::child_sum` meets its contract: at the loop's head is the sum over the nodes before.
 -- Assumes nothing.
-use mathlib.Core.Path.{◌≡◌, sym, ◌∙◌}
-use mathlib.Core.Logic.{⊎_elim}
-use Prim.Native.Nat.{◌+◌, ◌-◌, ◌*◌, ◌≤◌, ◌<◌}
-use native.Mathlib.Omega.{arith}
-use borrow.Author.Rules.{rules}
+use mathlib.Core.Path.{◌≡◌}
+use Prim.Native.Nat.{◌-◌, ◌*◌, ◌≤◌, ◌<◌}
 use Rattle.tree.specs.View.{tree_of}
-use Rattle.tree.proofs.Lit.{sum_up_to, sum_starts, sum_adds, sum_strange, sum_idle, sum_ends}
+use Rattle.tree.proofs.Lit.{sum_up_to}
 use Rattle.tree.proofs.shares.child_sum.Given as goal
 
 abbrev pub invariant-loop-node : goal.invariant-loop-node

@@ -12,7 +12,7 @@ use borrow.Author.Rules.{rules}
 use borrow.Author.Tests.{eqb-true, eqb-false}
 use Rattle.rules.specs.Words.{has}
 use Rattle.tree.specs.View.{tree_of, Lit, child_sum_in}
-use Rattle.tree.proofs.Lit.{sum_up_to, sum_starts, sum_adds, sum_strange, sum_idle, sum_ends, Child, parent_inside}
+use Rattle.tree.proofs.Lit.{sum_up_to, sum_starts, sum_adds, sum_strange, sum_idle, sum_ends, Child, child_below, parent_inside}
 use Rattle.tree.proofs.shares.child_sums.Invariants.{Sums}
 use Rattle.tree.proofs.shares.child_sums.Goals as goal
 
@@ -40,6 +40,11 @@ module _ (count : ℕ) (ps ws : List ℕ) {nodes : ℕ} (lit : Lit (tree_of coun
           let r : get_or (set sums q (get_or sums q 0 + w)) p 0 ≡ get_or sums p 0 = get_or-set_other sums q p (get_or sums q 0 + w) 0 (λ x. i (sym x)) in
           (omega (arith, r, (s p l).0), omega (arith, r, (s p l).1, sum_strange count ps ws lit p (n - 1) (omega arith) (omega arith) refl e i))
 
+-- the node before n, where it is active, as a child of its parent
+child : (count : ℕ) (ps ws : List ℕ) {nodes : ℕ} → Lit (tree_of count ps ws) nodes → (n : ℕ) → 1 < n → has nodes (n - 1) ≡ true
+    → {q : ℕ} → q ≡ get_or ps (n - 1) 0 → Child count ps ws nodes (n - 1) q
+child count ps ws lit n more on is = child_below count ps ws lit (n - 1) on (λ e. absurd (omega arith)) is
+
 pub loop-node-init : goal.loop-node-init
 loop-node-init c =
     let a = c.args in (
@@ -51,51 +56,61 @@ loop-node-init c =
     )
 
 pub offset_bounds-sums-parent : goal.offset_bounds-sums-parent
-offset_bounds-sums-parent c = omega (arith, (parent_inside (record { lit = c.requires; (sym c.has.ensures ∙ c.if-has.true) = (sym c.has.ensures ∙ c.if-has.true); below = λ e. absurd (omega (arith, e, (c.loop-node-test.true))); is = c.wide-parent.ensures })))
+offset_bounds-sums-parent c =
+    let a = c.args in
+    let k = child a.count a.parents.now a.weights.now c.requires c.loop-node.node c.loop-node-test.true (sym c.has.ensures ∙ c.if-has.true) c.wide-parent.ensures in
+    omega (arith, parent_inside k)
 
 pub bounds-sums-parent : goal.bounds-sums-parent
-bounds-sums-parent c = (parent_inside (record { lit = c.requires; (sym c.has.ensures ∙ c.if-has.true) = (sym c.has.ensures ∙ c.if-has.true); below = λ e. absurd (omega (arith, e, (c.loop-node-test.true))); is = c.wide-parent.ensures }))
+bounds-sums-parent c =
+    let a = c.args in
+    let k = child a.count a.parents.now a.weights.now c.requires c.loop-node.node c.loop-node-test.true (sym c.has.ensures ∙ c.if-has.true) c.wide-parent.ensures in
+    parent_inside k
 
 pub overflow_add-sums : goal.overflow_add-sums
 overflow_add-sums c =
-    let w = c in
-    omega (arith, (w.loop-node.invariant.2 w.wide-parent.result (parent_inside (record { lit = w.requires; (sym w.has.ensures ∙ w.if-has.true) = (sym w.has.ensures ∙ w.if-has.true); below = λ e. absurd (omega (arith, e, (w.loop-node-test.true))); is = w.wide-parent.ensures }))).0, c.heavy.ensures.1, w.requires.sound.most)
+    let a = c.args in
+    let k = child a.count a.parents.now a.weights.now c.requires c.loop-node.node c.loop-node-test.true (sym c.has.ensures ∙ c.if-has.true) c.wide-parent.ensures in
+    omega (arith, (c.loop-node.invariant.2 c.wide-parent.result (parent_inside k)).0, c.heavy.ensures.1, c.requires.sound.most)
 
 pub offset_bounds-sums-parent-then-has : goal.offset_bounds-sums-parent-then-has
-offset_bounds-sums-parent-then-has c = omega (arith, (parent_inside (record { lit = c.requires; (sym c.has.ensures ∙ c.if-has.true) = (sym c.has.ensures ∙ c.if-has.true); below = λ e. absurd (omega (arith, e, (c.loop-node-test.true))); is = c.wide-parent.ensures })))
+offset_bounds-sums-parent-then-has c =
+    let a = c.args in
+    let k = child a.count a.parents.now a.weights.now c.requires c.loop-node.node c.loop-node-test.true (sym c.has.ensures ∙ c.if-has.true) c.wide-parent.ensures in
+    omega (arith, parent_inside k)
 
 pub bounds-sums-parent-then-has : goal.bounds-sums-parent-then-has
-bounds-sums-parent-then-has c = (parent_inside (record { lit = c.requires; (sym c.has.ensures ∙ c.if-has.true) = (sym c.has.ensures ∙ c.if-has.true); below = λ e. absurd (omega (arith, e, (c.loop-node-test.true))); is = c.wide-parent.ensures }))
+bounds-sums-parent-then-has c =
+    let a = c.args in
+    let k = child a.count a.parents.now a.weights.now c.requires c.loop-node.node c.loop-node-test.true (sym c.has.ensures ∙ c.if-has.true) c.wide-parent.ensures in
+    parent_inside k
 
 pub loop-node-preserved-then-has : goal.loop-node-preserved-then-has
 loop-node-preserved-then-has c =
-    let w = c in
-    let l = w in
-    let a = w.args in (
+    let a = c.args in
+    let k = child a.count a.parents.now a.weights.now c.requires c.loop-node.node c.loop-node-test.true (sym c.has.ensures ∙ c.if-has.true) c.wide-parent.ensures in (
       search rules,
-      length-set l.loop-node.sums w.wide-parent.result _ ∙ l.loop-node.invariant.1,
-      adds a.count a.parents.now a.weights.now w.requires l.loop-node.node (w.loop-node-test.true) l.loop-node.invariant.0 l.loop-node.sums l.loop-node.invariant.2
-          l.loop-node.invariant.1 (parent_inside (record { lit = w.requires; (sym w.has.ensures ∙ w.if-has.true) = (sym w.has.ensures ∙ w.if-has.true); below = λ e. absurd (omega (arith, e, (w.loop-node-test.true))); is = w.wide-parent.ensures })) w.wide-parent.ensures c.heavy.ensures.0 c.heavy.ensures.1 (sym w.has.ensures ∙ w.if-has.true),
+      length-set c.loop-node.sums c.wide-parent.result _ ∙ c.loop-node.invariant.1,
+      adds a.count a.parents.now a.weights.now c.requires c.loop-node.node c.loop-node-test.true c.loop-node.invariant.0 c.loop-node.sums
+          c.loop-node.invariant.2 c.loop-node.invariant.1 (parent_inside k) c.wide-parent.ensures c.heavy.ensures.0 c.heavy.ensures.1
+          (sym c.has.ensures ∙ c.if-has.true),
     )
 
 pub loop-node-preserved : goal.loop-node-preserved
 loop-node-preserved c =
-    let h = c in
-    let l = h in
-    let a = l.args in (
+    let a = c.args in (
       search rules,
-      l.loop-node.invariant.1,
-      idle a.count a.parents.now a.weights.now l.requires l.loop-node.node h.loop-node-test.true l.loop-node.invariant.0
-          l.loop-node.sums l.loop-node.invariant.2 (sym h.has.ensures ∙ c.if-has.false),
+      c.loop-node.invariant.1,
+      idle a.count a.parents.now a.weights.now c.requires c.loop-node.node c.loop-node-test.true c.loop-node.invariant.0 c.loop-node.sums
+          c.loop-node.invariant.2 (sym c.has.ensures ∙ c.if-has.false),
     )
 
 pub returns : goal.returns
 returns c =
-    let l = c in
-    let a = l.args in
+    let a = c.args in
     λ p s.
-    let none : l.loop-node.node - 1 ≡ 0 = omega (arith, c.loop-node-test.false) in
-    let left : get_or l.loop-node.sums p 0 + sum_up_to (tree_of a.count a.parents.now a.weights.now) a.nodes p 0
+    let none : c.loop-node.node - 1 ≡ 0 = omega (arith, c.loop-node-test.false) in
+    let left : get_or c.loop-node.sums p 0 + sum_up_to (tree_of a.count a.parents.now a.weights.now) a.nodes p 0
     ≡ child_sum_in (tree_of a.count a.parents.now a.weights.now) a.nodes p =
-    rw none at (l.loop-node.invariant.2 p s).1 in
+    rw none at (c.loop-node.invariant.2 p s).1 in
     omega (arith, left, sum_starts (tree_of a.count a.parents.now a.weights.now) a.nodes p)

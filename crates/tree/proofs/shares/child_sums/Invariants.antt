@@ -1,18 +1,11 @@
 -- `shares::child_sums` meets its contract: at the loop's head the sums lack what the nodes before weigh.
 -- Assumes nothing.
-use mathlib.Core.Path.{◌≡◌, refl, sym, ◌∙◌}
-use mathlib.Core.Bool.{Bool, true, false}
+use mathlib.Core.Path.{◌≡◌}
 use mathlib.Core.List.{List}
 use Prim.Native.Nat.{ℕ, ◌+◌, ◌-◌, ◌*◌, ◌≤◌, ◌<◌}
-use native.Mathlib.Omega.{arith}
-use lib.Dec.{eqb}
-use lib.ListN.{length, get_or, set, length-set, get_or-replicate}
-use lib.Seq.{get_or-set_same, get_or-set_other}
-use borrow.Author.Rules.{rules}
-use borrow.Author.Tests.{eqb-true, eqb-false}
-use Rattle.rules.specs.Words.{has}
-use Rattle.tree.specs.View.{tree_of, Lit, child_sum_in}
-use Rattle.tree.proofs.Lit.{sum_up_to, sum_starts, sum_adds, sum_strange, sum_idle, sum_ends, Child, parent_inside}
+use lib.ListN.{length, get_or}
+use Rattle.tree.specs.View.{tree_of, child_sum_in}
+use Rattle.tree.proofs.Lit.{sum_up_to}
 use Rattle.tree.proofs.shares.child_sums.Given as goal
 
 -- the sums over the nodes from n on

@@ -4,8 +4,6 @@ use mathlib.Core.Path.{◌≡◌, sym, ◌∙◌}
 use mathlib.Core.Bool.{Bool, true, false, ◌&&◌}
 use Prim.Native.Nat.{ℕ, ◌<◌}
 use lib.Dec.{ltb}
-use borrow.Author.Rules.{rules}
-use borrow.Author.Tests.{not-true, not-false}
 use Rattle.rules.specs.Tree.{weight_in_range, is_thin, is_below_root, with_weight}
 use Rattle.rules.specs.Refusals.{first_of, weight_checks}
 use Rattle.rules.specs.Invariant.{SoundTree}
@@ -32,52 +30,43 @@ module _ (t : Tree) (w : ℕ) {n at : ℕ} (e : at ≡ n) where
     inside sound = below_root_inside sound n (rw e at here)
 
     module _ (range : weight_in_range w ≡ true) where
-      too-thin : is_thin (with_weight n w t) ≡ true → Refused ThinTree ≡ first_of (weight_checks n w t)
+      too_thin : is_thin (with_weight n w t) ≡ true → Refused ThinTree ≡ first_of (weight_checks n w t)
       unfolding weight_checks is_below_root
-      too-thin h = rw (h, ← e, here, range)
+      too_thin h = rw (h, ← e, here, range)
 
       accepted : is_thin (with_weight n w t) ≡ false → Accepted ≡ first_of (weight_checks n w t)
       unfolding weight_checks is_below_root
       accepted h = rw (h, ← e, here, range)
 
 -- the tree with the weight is thin, or it is not
-thin_is : (c : goal.After-thin_in_flight) {b : Bool} → c.thin_in_flight.result ≡ b → let a = c.args in
-    is_thin (with_weight a.node a.weight a.tree) ≡ b
-thin_is c e = rw c.with_weight.ensures at (sym c.thin_in_flight.ensures ∙ e)
+thin_is : (n w : ℕ) (t : Tree) {with : Tree} → with ≡ with_weight n w t → {r b : Bool} → r ≡ is_thin with → r ≡ b
+    → is_thin (with_weight n w t) ≡ b
+thin_is n w t i e f = rw i at (sym e ∙ f)
 
 pub returns-then-not-at-tree : goal.returns-then-not-at-tree
-returns-then-not-at-tree c =
-    let at = c in
-    absent at.args.tree at.args.weight at.wide-at.ensures c.if-not-at-tree.true
+returns-then-not-at-tree c = absent c.args.tree c.args.weight c.wide-at.ensures c.if-not-at-tree.true
 
 pub returns-then-not-weight_in_range : goal.returns-then-not-weight_in_range
 returns-then-not-weight_in_range c =
-    let found = c in
-    let at = found in
-    out_of_range at.args.tree at.args.weight at.wide-at.ensures (found.if-not-at-tree.false)
+    out_of_range c.args.tree c.args.weight c.wide-at.ensures c.if-not-at-tree.false
     (sym c.weight_in_range.ensures ∙ c.if-not-weight_in_range.true)
 
 pub with_weight-requires : goal.with_weight-requires
-with_weight-requires c =
-    let found = c in
-    let at = found in
-    inside at.args.tree at.args.weight at.wide-at.ensures (found.if-not-at-tree.false) at.requires
+with_weight-requires c = inside c.args.tree c.args.weight c.wide-at.ensures c.if-not-at-tree.false c.requires
 
 pub thin_in_flight-requires : goal.thin_in_flight-requires
 thin_in_flight-requires c =
-    let at = c in
-    rw c.with_weight.ensures (weight_keeps_sound_trees at.args.node at.args.weight at.requires (sym c.weight_in_range.ensures ∙ c.if-not-weight_in_range.false))
+    rw c.with_weight.ensures
+    (weight_keeps_sound_trees c.args.node c.args.weight c.requires (sym c.weight_in_range.ensures ∙ c.if-not-weight_in_range.false))
 
 pub returns-then-thin_in_flight : goal.returns-then-thin_in_flight
 returns-then-thin_in_flight c =
-    let ranged = c in
-    let found = ranged in
-    let at = found in
-    too-thin at.args.tree at.args.weight at.wide-at.ensures (found.if-not-at-tree.false) (sym ranged.weight_in_range.ensures ∙ ranged.if-not-weight_in_range.false) (thin_is c c.if-thin_in_flight.true)
+    let a = c.args in
+    too_thin a.tree a.weight c.wide-at.ensures c.if-not-at-tree.false (sym c.weight_in_range.ensures ∙ c.if-not-weight_in_range.false)
+    (thin_is a.node a.weight a.tree c.with_weight.ensures c.thin_in_flight.ensures c.if-thin_in_flight.true)
 
 pub returns : goal.returns
 returns c =
-    let ranged = c in
-    let found = ranged in
-    let at = found in
-    accepted at.args.tree at.args.weight at.wide-at.ensures (found.if-not-at-tree.false) (sym ranged.weight_in_range.ensures ∙ ranged.if-not-weight_in_range.false) (thin_is c c.if-thin_in_flight.false)
+    let a = c.args in
+    accepted a.tree a.weight c.wide-at.ensures c.if-not-at-tree.false (sym c.weight_in_range.ensures ∙ c.if-not-weight_in_range.false)
+    (thin_is a.node a.weight a.tree c.with_weight.ensures c.thin_in_flight.ensures c.if-thin_in_flight.false)

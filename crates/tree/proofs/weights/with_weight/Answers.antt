@@ -1,6 +1,5 @@
 -- `with_weight` meets its contract: one weight is set.
 -- Assumes nothing.
-use borrow.Author.Rules.{rules}
 use Rattle.tree.proofs.weights.with_weight.Goals as goal
 
 pub returns : goal.returns

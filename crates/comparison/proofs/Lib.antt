@@ -1,0 +1,4 @@
+pub mod Bench
+pub mod Laws
+pub mod Paper
+pub mod Theorems
