@@ -11,7 +11,7 @@ top=$(dirname "$here")
 crate=compare
 usage='usage: tests/compare.sh BINARY SECOND'
 binary=$(readlink -f "${1:?$usage}")
-[ "$binary" != "$top/compare" ] || binary=$top/target/bin/compare
+[ "$binary" != "$top/compare" ] || binary=$top/crates/compare/out/compare
 second=$(readlink -f "${2:?$usage}")
 source "$here/../agreement/common"
 source "$here/common"

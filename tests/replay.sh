@@ -11,7 +11,7 @@ top=$(dirname "$here")
 crate=replay
 whole=$top/crates/replay/data/whole-case.trace
 binary=$(readlink -f "${1:?usage: tests/replay.sh BINARY [SECOND]}")
-[ "$binary" != "$top/replay" ] || binary=$top/target/bin/replay
+[ "$binary" != "$top/replay" ] || binary=$top/crates/replay/out/replay
 second=${2:+$(readlink -f "$2")}
 source "$here/../agreement/common"
 source "$here/common"
@@ -401,29 +401,28 @@ done
 mkdir false
 cat >false/rt <<'END'
 #!/bin/sh
-[ "$1" = check ] || exec "$TRUE_RT" "$@"
-echo "$*" >>"$WORK/calls"
-mkdir -p target/bin target/stamp
-rm -f target/stamp/replay
+[ "$1" = run ] || exec "$TRUE_RT" "$@"
+echo "$* in ${PWD##*/crates/}" >>"$WORK/calls"
+rm -f out/replay.stamp
 echo 'fn a::b: proved'
-echo 'rt: a proved (1 s)'
-head -c 1000 "$BINARY" >target/bin/replay
-chmod +x target/bin/replay
+echo 'logic=proved functions=1'
+head -c 1000 "$BINARY" >out/replay
+chmod +x out/replay
 if [ "$(cat "$WORK/does")" = waits ]; then
     exec 8>"$WORK/given"
     sleep 1000 &
-    echo 'rt: b proved (2 s)'
+    echo 'logic=proved functions=2'
     wait
 fi
-echo 'rt: b proved (unchanged since it was last proved)'
+echo 'logic=proved functions=2'
 if [ "$(cat "$WORK/does")" = fails ]; then
-    echo 'rt: replay NOT PROVED (exit 1, 0 s)'
+    echo 'fn replay::b: no proof: expected a measure'
     exit 1
 fi
-cp "$BINARY" target/bin/replay
-echo 'rt: replay proved (3 s)'
-echo "rt: replay ran, and wrote what its file 'stdout' has (0 s)"
-: >target/stamp/replay
+cp "$BINARY" out/replay
+echo 'logic=proved functions=3'
+: >out/replay.stamp
+echo 'rt: running out/replay; to give it other input, run that file yourself'
 END
 chmod +x false/rt
 TRUE_RT=$(command -v rt || echo rt)
@@ -442,7 +441,7 @@ is "./replay: help needs no build" [ "$status" -eq 0 -a ! -e calls -a ! -e new/t
 replay whole
 is "./replay: the first use builds, and says so in one line" [ "$status" -eq 0 -a "$(cat err)" = "$notice" ]
 is "./replay: and then replays" cmp -s out whole.lines
-is "./replay: what it is called for" [ "$(cat calls)" = "check replay" ]
+is "./replay: what it is called for" [ "$(cat calls)" = "run in replay" ]
 replay whole
 is "./replay: the second does not" wrote whole.lines
 is "./replay: so that it is built once" called 1
@@ -458,7 +457,7 @@ replay whole
 is "./replay: a build that fails" [ "$status" -eq 1 -a ! -s out ]
 is "./replay: it says where to look" \
     [ "$(cat err)" = "$notice"$'\n'"replay: the program is not proved or not built: $work/new/target/replay.log says why" ]
-is "./replay: and why is there" grep -qxF 'rt: replay NOT PROVED (exit 1, 0 s)' new/target/replay.log
+is "./replay: and why is there" grep -qxF 'fn replay::b: no proof: expected a measure' new/target/replay.log
 replay whole
 is "./replay: and it is tried again" called 2
 builds waits
@@ -466,7 +465,7 @@ timeout "$limit" cat given >held &
 reader=$!
 "$wrapper" whole >out 2>err &
 waited=$!
-for ((i = 0; i < limit * 20; i++)); do grep -qs '^rt: b' new/target/replay.log && break; sleep 0.05; done
+for ((i = 0; i < limit * 20; i++)); do grep -qs '^logic=proved functions=2' new/target/replay.log && break; sleep 0.05; done
 kill -s TERM "$waited"
 wait "$waited" 2>wait.log
 is "./replay: TERM ends a build" [ $? -eq 143 ]

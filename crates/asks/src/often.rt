@@ -99,17 +99,17 @@ fn saved() -> Controller
     calls::tick(in_debt(), 1000000000)
 }
 
-pub(crate) fn issued() {
+pub(crate) fn issued(rt: &impl Print) {
     let last = asked_often(saved(), read(), QUESTIONS);
-    say::made(b"issued: ", QUESTIONS, last.sector);
+    say::made(rt, b"issued: ", QUESTIONS, last.sector);
 }
 
-pub(crate) fn owing() {
+pub(crate) fn owing(rt: &impl Print) {
     let last = asked_often(in_debt(), read(), QUESTIONS);
-    say::made(b"owing: ", QUESTIONS, last.sector);
+    say::made(rt, b"owing: ", QUESTIONS, last.sector);
 }
 
-pub(crate) fn submissions() {
+pub(crate) fn submissions(rt: &impl Print) {
     let last = sent_often(in_debt(), read(), SUBMISSIONS);
-    say::made(b"submissions: ", SUBMISSIONS, last.sector);
+    say::made(rt, b"submissions: ", SUBMISSIONS, last.sector);
 }

@@ -37,7 +37,7 @@ wants_bytes e last = is_cut e && not last
 
 -- the same part, passed up to another place
 abbrev pub passed_to : ℕ → Held → Held
-passed_to place h = record { fd = h.fd; base = h.base; filled = h.filled; place = place; last = h.last; failed = h.failed }
+passed_to place h = record { base = h.base; filled = h.filled; place = place; last = h.last; failed = h.failed }
 
 -- its whole records are passed, and it is over unless more bytes could make the next one whole
 pub record Scans (h : Held) (buf : List ℕ) (s : Scan) : Type 0 where

@@ -16,10 +16,11 @@ use comparison::answer::likeness_by;
 use comparison::both::{is_pair, step};
 use comparison::one::extent;
 use comparison::{Likeness, Step};
-use host::descriptor::{TRIES, write};
+use host::descriptor::{Descriptor, TRIES, write};
 use host::said::no_progress;
-use libc::STDOUT_FILENO;
 use listing::{Begins, Left, Listed, Reach, close, list};
+use std::io::{Stderr, Write};
+use std::os::unix::fs::FileExt;
 
 // Why a walk is over: both sides are at an end of theirs, or something failed.
 #[derive(Clone, Copy)]
@@ -33,6 +34,7 @@ pub(crate) enum End {
 // Whether a person watches, and how many bytes the first walk read.
 #[derive(Clone, Copy)]
 pub(crate) struct Watch {
+    pub err: Stderr,
     pub watched: bool,
     pub seen: u64,
 }
@@ -119,12 +121,12 @@ fn reached(s: Standing, r: Reach, put: usize) -> Standing
     }
 }
 
-fn more_first(s: Standing, a: &mut [u8]) -> Standing
+fn more_first<F: FileExt>(s: Standing, of_first: &mut Descriptor<F>, a: &mut [u8]) -> Standing
     requires { Inside s.first (length a.old) }
     ensures { FirstMore s result (length a.new) }
 {
     let before = s.first;
-    let first = refill(before, a);
+    let first = refill(before, of_first, a);
     if first.failed {
         return ended(s, End::FirstUnread);
     }
@@ -140,12 +142,12 @@ fn more_first(s: Standing, a: &mut [u8]) -> Standing
     }
 }
 
-fn more_second(s: Standing, b: &mut [u8]) -> Standing
+fn more_second<F: FileExt>(s: Standing, of_second: &mut Descriptor<F>, b: &mut [u8]) -> Standing
     requires { Inside s.second (length b.old) }
     ensures { SecondMore s result (length b.new) }
 {
     let before = s.second;
-    let second = refill(before, b);
+    let second = refill(before, of_second, b);
     if second.failed {
         return ended(s, End::SecondUnread);
     }
@@ -182,17 +184,23 @@ fn step_at(s: Standing, a: &[u8], b: &[u8]) -> Step
 }
 
 // More of a side whose next record is not whole; where both have one there was no room for a line, and elsewhere it is over.
-fn onward(s: Standing, a: &mut [u8], b: &mut [u8]) -> Standing
+fn onward<F: FileExt>(
+    s: Standing,
+    of_first: &mut Descriptor<F>,
+    of_second: &mut Descriptor<F>,
+    a: &mut [u8],
+    b: &mut [u8],
+) -> Standing
     requires { Stands s (length a.old) (length b.old) × (s.going ≡ true) }
     ensures { Onward s a.old b.old result a.new b.new }
 {
     let first = s.first;
     let second = s.second;
     if wants(first, a) {
-        return more_first(s, a);
+        return more_first(s, of_first, a);
     }
     if wants(second, b) {
-        return more_second(s, b);
+        return more_second(s, of_second, b);
     }
     if is_pair(step_at(s, a, b)) {
         return s;
@@ -211,33 +219,42 @@ fn total(s: Standing, seen: u64) -> u64 {
 // Progress is cleared from a terminal before lines are written.
 fn cleared(count: usize, s: Standing, watch: Watch) {
     if watch.watched & (0 < count) {
-        no_progress(total(s, watch.seen));
+        no_progress(watch.err, total(s, watch.seen));
     }
 }
 
 // One round: the lines of what is held are written, and more is read.
-fn round(s: Standing, watch: Watch, a: &mut [u8], b: &mut [u8], out: &mut [u8]) -> Standing
+fn round<F: FileExt, W: Write>(
+    s: Standing,
+    watch: Watch,
+    of_first: &mut Descriptor<F>,
+    of_second: &mut Descriptor<F>,
+    to: &mut Descriptor<W>,
+    a: &mut [u8],
+    b: &mut [u8],
+    out: &mut [u8],
+) -> Standing
     requires { Stands s (length a.old) (length b.old) }
     ensures { OneRound s a.old b.old (length out.old) result a.new b.new }
 {
     let listed = told(s, a, b, out);
     let count = listed.count;
     cleared(count, s, watch);
-    let put = write(STDOUT_FILENO, &out[0..count]);
+    let put = write(to, &out[0..count]);
     let r = listed.reach;
     let after = reached(s, r, put);
     if put < count {
         return ended(after, End::Unwritten);
     }
-    onward(after, a, b)
+    onward(after, of_first, of_second, a, b)
 }
 
-fn fresh(first: i32, second: i32) -> Standing
+fn fresh() -> Standing
     ensures { Fresh result }
 {
     Standing {
-        first: begun(first),
-        second: begun(second),
+        first: begun(),
+        second: begun(),
         number: 0,
         alike: true,
         put: 0,
@@ -311,7 +328,14 @@ fn put_closing(at: Step, s: Standing, lengths: Lengths, out: &mut [u8]) -> usize
 }
 
 // The end of a walk: its lines, unless a trace changed.
-fn closed(s: Standing, lengths: Lengths, a: &[u8], b: &[u8], out: &mut [u8]) -> Outcome
+fn closed<W: Write>(
+    s: Standing,
+    lengths: Lengths,
+    to: &mut Descriptor<W>,
+    a: &[u8],
+    b: &[u8],
+    out: &mut [u8],
+) -> Outcome
     requires { Stands s (length a.now) (length b.now) × (closing_room ≤ length out.old) }
     ensures { Closes s lengths a.now b.now result }
 {
@@ -324,7 +348,7 @@ fn closed(s: Standing, lengths: Lengths, a: &[u8], b: &[u8], out: &mut [u8]) -> 
         return Outcome::Changed;
     }
     let count = put_closing(at, s, lengths, out);
-    let put = write(STDOUT_FILENO, &out[0..count]);
+    let put = write(to, &out[0..count]);
     if put < count {
         return Outcome::Unwritten;
     }
@@ -332,25 +356,31 @@ fn closed(s: Standing, lengths: Lengths, a: &[u8], b: &[u8], out: &mut [u8]) -> 
 }
 
 // Both traces from their beginnings on, of which the first walk found no error.
-pub(crate) fn differences(first: i32, second: i32, lengths: Lengths, watch: Watch) -> Outcome {
-    let mut a = io::large_buffer();
-    let mut b = io::large_buffer();
-    let mut out = io::large_buffer();
-    let mut s = fresh(first, second);
+pub(crate) fn differences<F: FileExt, W: Write>(
+    of_first: &mut Descriptor<F>,
+    of_second: &mut Descriptor<F>,
+    to: &mut Descriptor<W>,
+    lengths: Lengths,
+    watch: Watch,
+) -> Outcome {
+    let mut a = [0u8; 65536];
+    let mut b = [0u8; 65536];
+    let mut out = [0u8; 65536];
+    let mut s = fresh();
     let mut rounds = TRIES;
     while rounds > 0 && s.going {
-        s = round(s, watch, &mut a, &mut b, &mut out);
+        s = round(s, watch, of_first, of_second, to, &mut a, &mut b, &mut out);
         if watch.watched {
-            progress(total(s, watch.seen));
+            progress(watch.err, total(s, watch.seen));
         }
         rounds -= 1;
     }
     if watch.watched {
-        no_progress(total(s, watch.seen));
+        no_progress(watch.err, total(s, watch.seen));
     }
     let end = s.end;
     match end {
-        End::Over => closed(s, lengths, &a, &b, &mut out),
+        End::Over => closed(s, lengths, to, &a, &b, &mut out),
         End::FirstUnread => Outcome::FirstUnread,
         End::SecondUnread => Outcome::SecondUnread,
         End::Unwritten => Outcome::Unwritten,

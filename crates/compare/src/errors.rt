@@ -6,8 +6,10 @@ use crate::said::progress;
 use crate::side::{Held, begun, passed, refill, wants_bytes};
 use comparison::one::{error_by, extent, records_end};
 use comparison::{Error, Extent, Side};
-use host::descriptor::TRIES;
+use host::descriptor::{Descriptor, TRIES};
 use host::said::no_progress;
+use std::io::Stderr;
+use std::os::unix::fs::FileExt;
 
 // Where a walk over one side stands: what it holds, what stands where its whole records end, and whether that is for good.
 #[derive(Clone, Copy)]
@@ -34,12 +36,12 @@ fn scanned(h: Held, buf: &[u8]) -> Scan
 }
 
 // One round: a part is read, and its whole records are passed.
-fn round(s: Scan, buf: &mut [u8]) -> Scan
+fn round<F: FileExt>(s: Scan, file: &mut Descriptor<F>, buf: &mut [u8]) -> Scan
     requires { Inside s.held (length buf.old) }
     ensures { OneScan s result buf.new }
 {
     let before = s.held;
-    let held = refill(before, buf);
+    let held = refill(before, file, buf);
     if held.failed {
         return Scan {
             held,
@@ -73,25 +75,37 @@ fn ended(side: Side, s: Scan) -> Walked
 }
 
 // The walk over one side. So many bytes of the other were read before.
-pub(crate) fn walk(side: Side, fd: i32, watched: bool, seen: usize) -> Walked {
-    let mut buf = io::large_buffer();
+pub(crate) fn walk<F: FileExt>(
+    side: Side,
+    file: &mut Descriptor<F>,
+    err: Stderr,
+    watched: bool,
+    seen: usize,
+) -> Walked {
+    let mut buf = [0u8; 65536];
     let mut s = Scan {
-        held: begun(fd),
+        held: begun(),
         found: Extent::End,
         over: false,
     };
     let mut rounds = TRIES;
     while rounds > 0 && !s.over {
-        s = round(s, &mut buf);
+        s = round(s, file, &mut buf);
         if watched {
             let held = s.held;
-            progress(std::num::wrapping_add_u64(seen as u64, held.base as u64));
+            progress(
+                err,
+                std::num::wrapping_add_u64(seen as u64, held.base as u64),
+            );
         }
         rounds -= 1;
     }
     if watched {
         let held = s.held;
-        no_progress(std::num::wrapping_add_u64(seen as u64, held.base as u64));
+        no_progress(
+            err,
+            std::num::wrapping_add_u64(seen as u64, held.base as u64),
+        );
     }
     ended(side, s)
 }

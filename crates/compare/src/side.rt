@@ -1,11 +1,12 @@
-// One side of a comparison: a file, and the part of it that is held. A part is read anew from the first byte that is not passed
+// One side of a comparison: the part of a file that is held. A part is read anew from the first byte that is not passed
 // yet, so nothing has to be moved in its buffer, and what is read twice is less than a record.
 ghost use Rattle.std.specs.Prelude.{◌≡◌, length};
 ghost use Rattle.compare.specs.Parts.{Inside, Refilled, passed_to, is_cut, wants_bytes};
 
 use comparison::Extent;
-use host::descriptor::fill_at;
+use host::descriptor::{Descriptor, fill_at};
 use lines::number_of;
+use std::os::unix::fs::FileExt;
 
 // No file is longer than an offset can say. So the sum of a place and a buffer's length always fits.
 const FARTHEST: usize = 0x7fff_ffff_0000_0000;
@@ -14,7 +15,6 @@ const FARTHEST: usize = 0x7fff_ffff_0000_0000;
 // it is `last`.
 #[derive(Clone, Copy)]
 pub(crate) struct Held {
-    pub fd: i32,
     pub base: usize,
     pub filled: usize,
     pub place: usize,
@@ -23,11 +23,10 @@ pub(crate) struct Held {
 }
 
 // Nothing is held yet.
-pub(crate) fn begun(fd: i32) -> Held
+pub(crate) fn begun() -> Held
     ensures { (result.base ≡ 0) × (result.filled ≡ 0) × (result.place ≡ 0) }
 {
     Held {
-        fd,
         base: 0,
         filled: 0,
         place: 0,
@@ -37,14 +36,13 @@ pub(crate) fn begun(fd: i32) -> Held
 }
 
 // The part that begins at the first byte that is not passed yet.
-pub(crate) fn refill(h: Held, buf: &mut [u8]) -> Held
+pub(crate) fn refill<F: FileExt>(h: Held, file: &mut Descriptor<F>, buf: &mut [u8]) -> Held
     requires { Inside h (length buf.old) }
     ensures { Refilled h result (length buf.new) }
 {
     let from = h.base + h.place;
     if from > FARTHEST {
         return Held {
-            fd: h.fd,
             base: h.base,
             filled: h.filled,
             place: h.place,
@@ -52,9 +50,8 @@ pub(crate) fn refill(h: Held, buf: &mut [u8]) -> Held
             failed: true,
         };
     }
-    let got = fill_at(h.fd, from, buf);
+    let got = fill_at(file, from, buf);
     Held {
-        fd: h.fd,
         base: from,
         filled: got.count,
         place: 0,
@@ -68,7 +65,6 @@ pub(crate) fn passed(h: Held, place: usize) -> Held
     ensures { result ≡ passed_to place h }
 {
     Held {
-        fd: h.fd,
         base: h.base,
         filled: h.filled,
         place,

@@ -1,31 +1,31 @@
-// The mark of a run. The language gives a program no exit status. So a caller that wants one asks for a mark by the first
-// argument, and takes a run without a mark for one that failed.
-use crate::descriptor::write;
+// The mark of a run. A program ends with status 0 whatever came of its run. So a caller that wants to know asks for a mark by
+// the first argument, and takes a run without a mark for one that failed.
+use crate::descriptor::{Descriptor, is_open, write};
+use std::env::Env;
+use std::fs::OpenOptions;
+use std::rt::Files;
 
 // Where the mark goes. Nothing is written there unasked, since it may be any file that the program was handed.
-const REPORT: i32 = 3;
+const REPORT: &str = "/dev/fd/3";
 
-fn same(a: &[u8], b: &[u8]) -> bool {
-    if a.len() != b.len() {
+const FOR_WRITING: u32 = 0o200;
+
+pub fn is_asked(rt: &impl Env) -> bool {
+    let mut word = [0u8; 4096];
+    match rt.arg(1, &mut word) {
+        Ok(length) => &word[..length] == b"--report".as_slice(),
+        Err(_) => false,
+    }
+}
+
+// Writes the mark, which is a word and a line feed, behind what is there. Was all of it written? The program has closed what it
+// opened: a file of its own may have had the number where the caller gave none.
+pub fn mark(rt: &impl Files, word: &[u8]) -> bool {
+    if !is_open(rt, REPORT, FOR_WRITING) {
         return false;
     }
-    let mut i: usize = 0;
-    while i < a.len() {
-        if a[i] != b[i] {
-            return false;
-        }
-        i += 1;
+    match OpenOptions::new().append(true).open(rt, REPORT) {
+        Ok(report) => write(&mut Descriptor::new(report), word) == word.len(),
+        Err(_) => false,
     }
-    true
-}
-
-pub fn is_asked() -> bool {
-    let mut word = io::buffer();
-    let length = os::arg(1, &mut word);
-    same(&word[..length], b"--report")
-}
-
-// Writes the mark, which is a word and a line feed.
-pub fn mark(word: &[u8]) {
-    write(REPORT, word);
 }

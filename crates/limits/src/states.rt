@@ -33,10 +33,10 @@ fn model_m() -> Rates {
     }
 }
 
-pub(crate) fn fresh() -> Controller
+pub(crate) fn fresh(rt: &impl Print) -> Controller
     ensures { Sound result }
 {
-    calls::start(b"start with two leaves", two_leaves(), model_m())
+    calls::start(rt, b"start with two leaves", two_leaves(), model_m())
 }
 
 // The same state at another virtual time, which may be any up to the limit.

@@ -1,6 +1,7 @@
 // The lines of the replay, as bytes at the front of a buffer that the caller lends: each function writes one kind of
 // line, leaves the rest of the buffer as it was, and answers how many bytes it wrote. What a line says is decided above.
 #![tactic(auto)]
+
 ghost use Rattle.std.specs.Prelude.{◌≡◌, [], ◌∷◌, ◌++◌, ◌+◌, ◌*◌, ◌≤◌, ◌<◌, length, take};
 ghost use Rattle.rules.specs.Numbers.{refusal_room, id_room, share_room, shares_room};
 ghost use Rattle.rules.specs.Refusals.{fault_number, fault_node, number};

@@ -10,7 +10,7 @@ use lib.Dec.{ltb}
 use lib.ListN.{length, get_or, set, replicate}
 use borrow.Author.Tests.{ltb-true, ltb-false, eq-eqb, ne_eqb}
 use Rattle.rules.specs.Numbers.{nodes_most, leaf_most, since_most}
-use Rattle.rules.specs.Words.{sum_to, table, has, no_node}
+use Rattle.rules.specs.Words.{sum_to, table, has, set_to, set_of, no_node}
 use Rattle.rules.specs.Units.{abs}
 use Rattle.rules.specs.Tree.{base_shares}
 use Rattle.rules.specs.Budget.{empty_row, empty_queue, row_at, queue_at, share_at, with_clock, with_sharing, with_books, with_budget, rebudget, reshared}
@@ -28,10 +28,12 @@ use Rattle.rules.proofs.Laws.Trees.{no_root_within}
 use Rattle.rules.proofs.Laws.Plans.{closed_worth, after_within, donor_active, donor_is}
 use Rattle.donation.specs.Donation as donation
 use Rattle.plan.specs.Sharing.{CanShare, sharing_of, Shown, put_plan}
-use Rattle.plan.specs.Steps.{usage_at, closed_row, planned_row, planned_at, usage_of, staying_of, targets_of, donors_of, planned_rows}
+use Rattle.plan.proofs.Turns.{all_cleared}
+use Rattle.plan.specs.Steps.{usage_at, keeps_at, gives_at, left_at, closed_row, planned_row, planned_at, usage_of, staying_of, targets_of, donors_of, planned_rows}
 use Rattle.plan.specs.declared.Sharing.{Sharing}
 use Rattle.plan.specs.declared.Planned.{Planned}
 use Rattle.leaf.specs.Alone.{length_only, stays_with, is_donor_with, donor_by_count}
+use Rattle.rules.specs.declared.units.Abs.{Abs}
 use Rattle.rules.specs.declared.units.Virt.{Virt}
 use Rattle.rules.specs.declared.tree.Tree.{Tree}
 use Rattle.rules.specs.declared.budget.Row.{Row}
@@ -151,6 +153,31 @@ pub record Worked (tree : Tree) (since : Virt) (was : ℕ) (rows : List Row) (wa
   pub bases_by : bases ≡ base_shares tree active
   pub targets_by : targets ≡ targets_of since (table (usage_at rows))
   pub donors_by : donors ≡ donors_of active quiet bases targets rows waiting
+
+-- ---- what the loops leave when they end
+pub usages_read : (rows : List Row) {usages : List ℕ} {n : ℕ} → usages ≡ swept (table (usage_at rows)) (replicate nodes_most 0) n → n ≡ nodes_most
+    → Usages rows usages
+usages_read rows {usages} {n} e done = places_done (usage_at rows) (replicate nodes_most 0) usages n refl e done
+
+pub stayed : (was : ℕ) (quiet : Bool) (rows : List Row) (waiting : List ℕ) {active n : ℕ}
+    → active ≡ set_of (left_at was (keeps_at quiet rows waiting) n) → n ≡ nodes_most → active ≡ staying_of was quiet rows waiting
+stayed was quiet rows waiting e done =
+    e ∙ ap (λ (n : ℕ). set_of (left_at was (keeps_at quiet rows waiting) n)) done ∙ all_cleared was (keeps_at quiet rows waiting)
+
+pub worked : {tree : Tree} {since : Virt} {was : ℕ} {rows : List Row} {waiting : List ℕ} {quiet : Bool} {active : ℕ}
+    {used : Abs} {usages bases targets : List ℕ} {donors n : ℕ}
+    → Usages rows usages → used ≡ usage_of usages → quiet ≡ is_quiet used since
+    → active ≡ staying_of was quiet rows waiting → bases ≡ base_shares tree active → targets ≡ targets_of since usages
+    → donors ≡ set_to (gives_at active quiet bases targets rows waiting) n → n ≡ nodes_most
+    → Worked tree since was rows waiting quiet active bases targets donors
+worked {since = since} {rows = rows} {waiting = waiting} {quiet = quiet} {active = active} {bases = bases} {targets = targets} read used quick stay base aim gave done =
+    record {
+      quiet_by = quick ∙ ap (λ (u : Abs). is_quiet u since) (used ∙ ap usage_of read);
+      active_by = stay;
+      bases_by = base;
+      targets_by = aim ∙ ap (targets_of since) read;
+      donors_by = gave ∙ ap (set_to (gives_at active quiet bases targets rows waiting)) done;
+    }
 
 -- ---- what sharing asks
 module _ {c : Controller} (s : Sound c) (quiet : Bool) {active donors : ℕ} {bases : List ℕ} (targets : List ℕ)

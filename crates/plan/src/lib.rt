@@ -3,6 +3,7 @@
 // them would copy them: a step over rows is a loop there, and what it does to one leaf is a function here or in the crate
 // leaf.
 #![tactic(auto)]
+
 ghost use Rattle.std.specs.Prelude.{◌≡◌, [], ◌&&◌, ◌*◌, ◌≤◌, ◌<◌, ltb};
 ghost use Rattle.rules.specs.Numbers.{since_most};
 ghost use Rattle.rules.specs.Plan.{is_quiet, forgiven as forgiven_of, restarted_clock, plan as plan_of};

@@ -12,10 +12,10 @@ ghost use Rattle.rules.specs.Invariant.{Playing};
 ghost use Rattle.replay.specs.Rounds.{Stands, Ended, Replayed, LeftOver, Onward, OneRound, ending_of};
 
 use crate::said;
-use host::descriptor::{TRIES, read, write};
-use host::said::{is_watched, no_progress};
-use libc::STDOUT_FILENO;
+use host::descriptor::{Descriptor, TRIES, read, write};
+use host::said::no_progress;
 use rules::replay::{Fed, Pause, Replay};
+use std::io::{Read, Stderr, Write};
 use steps::chunk::{beginning, carry, feed};
 
 // Why a run is over.
@@ -59,21 +59,27 @@ fn wide(n: usize) -> u64 {
 }
 
 // How many bytes were read so far, with those that came now. This is shown to a person at a terminal.
-fn total_with(total: u64, count: usize, watched: bool) -> u64 {
+fn total_with(total: u64, count: usize, err: Stderr, watched: bool) -> u64 {
     let total = std::num::wrapping_add_u64(total, wide(count));
     if watched {
-        said::progress(total);
+        said::progress(err, total);
     }
     total
 }
 
 // One read, whose bytes go behind those that wait.
-fn more(s: Standing, fd: i32, watched: bool, chunk: &mut [u8]) -> Standing
+fn more<R: Read>(
+    s: Standing,
+    from: &mut Descriptor<R>,
+    err: Stderr,
+    watched: bool,
+    chunk: &mut [u8],
+) -> Standing
     requires { Stands s (length chunk.old) }
     ensures { Onward Pause.Bytes s chunk.old result chunk.new }
 {
     let filled = s.filled;
-    let got = read(fd, &mut chunk[filled..]);
+    let got = read(from, &mut chunk[filled..]);
     if got.failed {
         return ended(s, End::Unread);
     }
@@ -82,28 +88,35 @@ fn more(s: Standing, fd: i32, watched: bool, chunk: &mut [u8]) -> Standing
         replay,
         filled: filled + got.count,
         last: got.count == 0,
-        total: total_with(s.total, got.count, watched),
+        total: total_with(s.total, got.count, err, watched),
         put: s.put,
         going: true,
         end: End::Over,
     }
 }
 
-fn onward(pause: Pause, s: Standing, fd: i32, watched: bool, chunk: &mut [u8]) -> Standing
+fn onward<R: Read>(
+    pause: Pause,
+    s: Standing,
+    from: &mut Descriptor<R>,
+    err: Stderr,
+    watched: bool,
+    chunk: &mut [u8],
+) -> Standing
     requires { Stands s (length chunk.old) × (s.going ≡ true) }
     ensures { Onward pause s chunk.old result chunk.new }
 {
     match pause {
         Pause::Over => ended(s, End::Over),
-        Pause::Bytes => more(s, fd, watched, chunk),
+        Pause::Bytes => more(s, from, err, watched, chunk),
         Pause::Room => s,
     }
 }
 
 // Progress is cleared from a terminal before lines are written.
-fn cleared(count: usize, total: u64, watched: bool) {
+fn cleared(count: usize, total: u64, err: Stderr, watched: bool) {
     if watched & (0 < count) {
-        no_progress(total);
+        no_progress(err, total);
     }
 }
 
@@ -135,20 +148,28 @@ fn left_over(fed: Fed, put: usize, s: Standing, chunk: &mut [u8]) -> Standing
 }
 
 // One round: what waits is replayed, its lines are written, and more is read if that is what the replay wants.
-fn round(s: Standing, fd: i32, watched: bool, chunk: &mut [u8], out: &mut [u8]) -> Standing
+fn round<R: Read, W: Write>(
+    s: Standing,
+    from: &mut Descriptor<R>,
+    to: &mut Descriptor<W>,
+    err: Stderr,
+    watched: bool,
+    chunk: &mut [u8],
+    out: &mut [u8],
+) -> Standing
     requires { Stands s (length chunk.old) }
     ensures { OneRound s chunk.old (length out.old) result chunk.new }
 {
     let fed = replayed(s, chunk, out);
     let count = fed.count;
-    cleared(count, s.total, watched);
-    let put = write(STDOUT_FILENO, &out[0..count]);
+    cleared(count, s.total, err, watched);
+    let put = write(to, &out[0..count]);
     let after = left_over(fed, put, s, chunk);
     if put < count {
         return ended(after, End::Unwritten);
     }
     let pause = fed.pause;
-    onward(pause, after, fd, watched, chunk)
+    onward(pause, after, from, err, watched, chunk)
 }
 
 // How the run ended. Where it could still go on, the rest of its trace is unread.
@@ -162,10 +183,14 @@ fn ending(s: Standing) -> End
     end
 }
 
-pub(crate) fn replay_from(fd: i32) -> End {
-    let watched = is_watched();
-    let mut chunk = io::large_buffer();
-    let mut out = io::large_buffer();
+pub(crate) fn replay_from<R: Read, W: Write>(
+    from: &mut Descriptor<R>,
+    to: &mut Descriptor<W>,
+    err: Stderr,
+    watched: bool,
+) -> End {
+    let mut chunk = [0u8; 65536];
+    let mut out = [0u8; 65536];
     let mut s = Standing {
         replay: beginning(),
         filled: 0,
@@ -177,11 +202,11 @@ pub(crate) fn replay_from(fd: i32) -> End {
     };
     let mut rounds = TRIES;
     while rounds > 0 && s.going {
-        s = round(s, fd, watched, &mut chunk, &mut out);
+        s = round(s, from, to, err, watched, &mut chunk, &mut out);
         rounds -= 1;
     }
     if watched {
-        no_progress(s.total);
+        no_progress(err, s.total);
     }
     ending(s)
 }

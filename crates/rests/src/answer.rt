@@ -10,9 +10,9 @@ ghost use Rattle.rests.specs.Answer.{told_lines, found_lines, answer_lines, reco
 
 use comparison::answer::{compare, rest};
 use comparison::{Comparison, Error, Side};
-use host::descriptor::write;
-use libc::STDOUT_FILENO;
+use host::descriptor::{Descriptor, write};
 use rules::trace::{Read, Record};
+use std::io::Write;
 use text::{put_difference, put_ends, put_error, put_likeness, put_record, put_rest_length};
 use trace::decoder::read_at;
 
@@ -70,8 +70,8 @@ fn put_line(r: Record, out: &mut [u8]) -> usize
 }
 
 // Were all the bytes taken?
-fn is_written(lines: &[u8]) -> bool {
-    write(STDOUT_FILENO, lines) == lines.len()
+fn is_written<W: Write>(to: &mut Descriptor<W>, lines: &[u8]) -> bool {
+    write(to, lines) == lines.len()
 }
 
 fn ended(place: usize) -> Stop
@@ -84,7 +84,7 @@ fn ended(place: usize) -> Stop
 }
 
 // Each record, from the first on.
-fn tell_records(records: &[u8], out: &mut [u8]) -> Stop
+fn tell_records<W: Write>(to: &mut Descriptor<W>, records: &[u8], out: &mut [u8]) -> Stop
     requires { (error_in Side.First records.now ≡ Error.Nothing) × (text_room < length out.old) }
     ensures { AtEnd records.now result }
 {
@@ -93,7 +93,7 @@ fn tell_records(records: &[u8], out: &mut [u8]) -> Stop
         match read_at(records, at) {
             Read::Found(r, next) => {
                 let count = put_line(r, out);
-                if !is_written(&out[0..count]) {
+                if !is_written(to, &out[0..count]) {
                     return Stop {
                         place: at,
                         unwritten: true,
@@ -108,12 +108,17 @@ fn tell_records(records: &[u8], out: &mut [u8]) -> Stop
 }
 
 // Was all of it written?
-pub(crate) fn tell<'a>(first: &'a [u8], second: &'a [u8], from: usize) -> bool {
-    let mut out = io::buffer();
+pub(crate) fn tell<'a, W: Write>(
+    to: &mut Descriptor<W>,
+    first: &'a [u8],
+    second: &'a [u8],
+    from: usize,
+) -> bool {
+    let mut out = [0u8; 4096];
     let count = put_answer(first, second, from, &mut out);
-    if !is_written(&out[0..count]) {
+    if !is_written(to, &out[0..count]) {
         return false;
     }
-    let told = tell_records(rest(first, second), &mut out);
+    let told = tell_records(to, rest(first, second), &mut out);
     !told.unwritten
 }

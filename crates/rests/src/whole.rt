@@ -4,7 +4,9 @@ ghost use Rattle.rests.specs.Held.{Within};
 ghost use Rattle.std.specs.Prelude.{length};
 
 use crate::said;
-use host::descriptor::read;
+use host::arguments::word;
+use host::descriptor::{Descriptor, open, read};
+use std::io::{Error, Read, Stderr};
 
 // How many bytes a trace has that is held, or why it is not.
 #[derive(Clone, Copy)]
@@ -15,11 +17,11 @@ pub(crate) enum Held {
 }
 
 // What a full buffer holds is all of a trace only where no byte follows.
-fn at_end(fd: i32, count: usize) -> Held
+fn at_end<R: Read>(from: &mut Descriptor<R>, count: usize) -> Held
     ensures { Within result count }
 {
     let mut more = [0u8; 1];
-    let got = read(fd, &mut more);
+    let got = read(from, &mut more);
     if got.failed {
         return Held::Unread;
     }
@@ -29,12 +31,12 @@ fn at_end(fd: i32, count: usize) -> Held
     Held::Whole(count)
 }
 
-fn fill(fd: i32, out: &mut [u8]) -> Held
+fn fill<R: Read>(from: &mut Descriptor<R>, out: &mut [u8]) -> Held
     ensures { Within result (length out.new) }
 {
     let mut count: usize = 0;
     while count < out.len() {
-        let got = read(fd, &mut out[count..]);
+        let got = read(from, &mut out[count..]);
         if got.failed {
             return Held::Unread;
         }
@@ -43,41 +45,45 @@ fn fill(fd: i32, out: &mut [u8]) -> Held
         }
         count += got.count;
     }
-    at_end(fd, count)
+    at_end(from, count)
 }
 
-fn say_of(held: Held, name: &mut [u8]) {
+fn say_of(err: Stderr, held: Held, name: &mut [u8], why: Error) {
     match held {
         Held::Whole(_) => {}
-        Held::TooLong => said::too_long(name),
-        Held::Unread => said::file_unread(name),
+        Held::TooLong => said::too_long(err, name),
+        Held::Unread => said::file_unread(err, name, why),
     }
 }
 
 // The file of this name. A file that cannot be closed was read all the same.
-fn file(name: &mut [u8], out: &mut [u8]) -> Held
+fn file(rt: &HostRuntime, name: &mut [u8], out: &mut [u8]) -> Held
     ensures { Within result (length out.new) }
 {
-    let fd = os::open_read(name);
-    if fd < 0 {
-        said::file_unread(name);
-        return Held::Unread;
+    let err = rt.stderr();
+    match open(rt, name) {
+        Ok(mut from) => {
+            let held = fill(&mut from, out);
+            say_of(err, held, name, from.why());
+            held
+        }
+        Err(why) => {
+            said::file_unread(err, name, why);
+            Held::Unread
+        }
     }
-    let held = fill(fd, out);
-    say_of(held, name);
-    libc::close(fd);
-    held
 }
 
 // The file that the argument at a place names.
-pub(crate) fn hold(place: usize, out: &mut [u8]) -> Held
+pub(crate) fn hold(rt: &HostRuntime, place: usize, out: &mut [u8]) -> Held
     ensures { Within result (length out.new) }
 {
-    let mut name = io::buffer();
-    let length = os::arg(place, &mut name);
-    if os::errno() != 0 {
-        said::argument_unread();
-        return Held::Unread;
+    let mut name = [0u8; 4096];
+    match word(rt, place, &mut name) {
+        Ok(length) => file(rt, &mut name[..length], out),
+        Err(why) => {
+            said::argument_unread(rt.stderr(), why);
+            Held::Unread
+        }
     }
-    file(&mut name[..length], out)
 }

@@ -1,6 +1,7 @@
 // Records of a trace and the lines of a comparison as text, at the front of a buffer that the caller lends: each function
 // writes one, leaves the rest of the buffer as it was, and answers how many bytes it wrote. What a line says is decided above.
 #![tactic(auto)]
+
 ghost use Rattle.std.specs.Prelude.{◌∷◌, ◌++◌, ◌+◌, ◌*◌, ◌≤◌, ◌<◌, length};
 ghost use Rattle.rules.specs.Replay.{digits, numbers};
 ghost use Rattle.rules.specs.Buffers.{Written};

@@ -1,14 +1,12 @@
 -- `lines::number_of` meets its contract: each arm answers the number of its own variant, and a fault of the tree its own.
 -- Assumes nothing.
-use mathlib.Core.Path.{sym, ap, ◌∙◌}
-use borrow.Author.Rules.{rules}
+use Rattle.std.proofs.Common.{sym, ap, ◌∙◌}
 use Rattle.rules.specs.Refusals.{number}
 use Rattle.lines.proofs.number_of.Goals as goal
 
 pub returns-in-BadTree : goal.returns-in-BadTree
 returns-in-BadTree c =
-    let known = c in
-    c.fault_number.ensures ∙ sym (ap number known.in-BadTree.is)
+    c.fault_number.ensures ∙ sym (ap number c.in-BadTree.is)
 
 pub returns-in-ThinTree : goal.returns-in-ThinTree
 returns-in-ThinTree c = sym (ap number c.in-ThinTree.is)

@@ -1,6 +1,5 @@
 -- `lines::put_answer` meets its contract: each arm has its own letter.
 -- Assumes nothing.
-use borrow.Author.Rules.{rules}
 use Rattle.rules.specs.Replay.{answer_line}
 use Rattle.lines.proofs.put_answer.Goals as goal
 

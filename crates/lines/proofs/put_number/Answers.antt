@@ -1,6 +1,6 @@
 -- `lines::put_number` meets its contract: one byte more than the digits.
 -- Assumes nothing.
-use borrow.Author.Rules.{rules}
+use Rattle.std.proofs.Common.{rules}
 use Rattle.rules.specs.Replay.{digits}
 use Rattle.rules.specs.Buffers.{Stands}
 use Rattle.rules.proofs.Laws.Buffers.{stands_byte}
@@ -8,8 +8,6 @@ use Rattle.lines.proofs.put_number.Goals as goal
 
 pub returns : goal.returns
 returns c =
-    let called = c in
-    let start = called in
-    let put : Stands (digits start.args.n) start.args.out.now called.put_digits-at.new.1.0 called.put_digits-at.result =
-    record { front = called.put_digits-at.ensures; within = search rules } in
-    (stands_byte put (search rules) start.args.end).front
+    let put : Stands (digits c.args.n) c.args.out.now c.put_digits-at.new.out c.put_digits-at.result =
+    record { front = c.put_digits-at.ensures; within = search rules } in
+    (stands_byte put (search rules) c.args.end).front

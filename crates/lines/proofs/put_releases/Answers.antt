@@ -1,14 +1,9 @@
 -- `lines::put_releases` meets its contract. The invariant: the first i ids stand at the front, in at most 13 bytes each.
 -- Assumes nothing.
-use mathlib.Core.Path.{◌≡◌}
-use mathlib.Core.List.{List, [], ◌∷◌}
-use Prim.Native.Nat.{ℕ, ◌+◌, ◌-◌, ◌*◌, ◌≤◌, ◌<◌}
-use native.Mathlib.Omega.{arith}
-use lib.ListN.{length, take, get_or}
-use borrow.Author.Rules.{rules}
+use Rattle.std.proofs.Common.{◌≡◌, List, [], ◌∷◌, ℕ, ◌+◌, ◌*◌, ◌≤◌, ◌<◌, arith, length, take, get_or, rules}
 use Rattle.rules.specs.Replay.{line, release_lines}
-use Rattle.rules.specs.Buffers.{Written, Stands, rest_of, put_back}
-use Rattle.rules.proofs.Laws.Buffers.{stands_none, stands_kept, stands_left, stands_rest, stands_more}
+use Rattle.rules.specs.Buffers.{Written, rest_of, put_back}
+use Rattle.rules.proofs.Laws.Buffers.{stands_none, stands_rest, stands_more}
 use Rattle.rules.proofs.Laws.Lines.{releases_next}
 use Rattle.lines.proofs.put_releases.Invariants.{Inv}
 use Rattle.lines.proofs.put_releases.Goals as goal
@@ -32,27 +27,14 @@ module _ {ids o₀ o : List ℕ} {count at i : ℕ} (v : Inv ids o₀ o count at
 pub loop-i-init : goal.loop-i-init
 loop-i-init c = record { upto = search rules; front = stands_none c.args.out.now; few = search rules }
 
-pub slice_bounds-put_id-count : goal.slice_bounds-put_id-count
-slice_bounds-put_id-count c = stands_left c.loop-i.invariant.front
-
-pub slice_bounds-put_id-start : goal.slice_bounds-put_id-start
-slice_bounds-put_id-start c = stands_left c.loop-i.invariant.front
-
 pub put_id-at-requires : goal.put_id-at-requires
 put_id-at-requires c =
-    let head = c in
-    asked head.loop-i.invariant head.requires.1 c.loop-i-test.true
+    asked c.loop-i.invariant c.requires.1 c.loop-i-test.true
 
 pub loop-i-preserved : goal.loop-i-preserved
 loop-i-preserved c =
-    let called = c in
-    let turned = called in
-    let start = turned in
-    turn turned.loop-i.invariant start.requires.1 turned.loop-i-test.true start.requires.0 called.put_id-at.result called.put_id-at.new.1.1.0
-    called.put_id-at.ensures.0 called.put_id-at.ensures.1
-
-pub shape_of-out : goal.shape_of-out
-shape_of-out c = stands_kept c.loop-i.invariant.front
+    turn c.loop-i.invariant c.requires.1 c.loop-i-test.true c.requires.0 c.put_id-at.result c.put_id-at.new.out
+    c.put_id-at.ensures.0 c.put_id-at.ensures.1
 
 pub returns : goal.returns
 returns c = finished c.loop-i.invariant c.loop-i-test.false

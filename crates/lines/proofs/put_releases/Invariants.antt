@@ -1,15 +1,8 @@
 -- `lines::put_releases` meets its contract. The invariant: the first i ids stand at the front, in at most 13 bytes each.
 -- Assumes nothing.
-use mathlib.Core.Path.{◌≡◌}
-use mathlib.Core.List.{List, [], ◌∷◌}
-use Prim.Native.Nat.{ℕ, ◌+◌, ◌-◌, ◌*◌, ◌≤◌, ◌<◌}
-use native.Mathlib.Omega.{arith}
-use lib.ListN.{length, take, get_or}
-use borrow.Author.Rules.{rules}
-use Rattle.rules.specs.Replay.{line, release_lines}
-use Rattle.rules.specs.Buffers.{Written, Stands, rest_of, put_back}
-use Rattle.rules.proofs.Laws.Buffers.{stands_none, stands_kept, stands_left, stands_rest, stands_more}
-use Rattle.rules.proofs.Laws.Lines.{releases_next}
+use Rattle.std.proofs.Common.{List, ℕ, ◌-◌, ◌*◌, ◌≤◌, take}
+use Rattle.rules.specs.Replay.{release_lines}
+use Rattle.rules.specs.Buffers.{Stands}
 use Rattle.lines.proofs.put_releases.Given as goal
 
 pub record Inv (ids o₀ o : List ℕ) (count at i : ℕ) : Type 0 where

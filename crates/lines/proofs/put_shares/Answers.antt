@@ -1,13 +1,8 @@
 -- `lines::put_shares` meets its contract. The invariant: the leaves below n stand at the front, in at most 16 bytes each.
 -- Assumes nothing.
-use mathlib.Core.Path.{◌≡◌}
-use mathlib.Core.List.{List}
-use Prim.Native.Nat.{ℕ, ◌+◌, ◌-◌, ◌*◌, ◌≤◌, ◌<◌}
-use native.Mathlib.Omega.{arith}
-use lib.ListN.{length, get_or}
-use borrow.Author.Rules.{rules}
+use Rattle.std.proofs.Common.{◌≡◌, List, ℕ, ◌+◌, ◌-◌, ◌≤◌, ◌<◌, arith, length, get_or, rules}
 use Rattle.rules.specs.Buffers.{Written, Stands, rest_of, put_back}
-use Rattle.rules.proofs.Laws.Buffers.{stands_none, stands_kept, stands_left, stands_rest, stands_more}
+use Rattle.rules.proofs.Laws.Buffers.{stands_none, stands_rest, stands_more}
 use Rattle.rules.proofs.Laws.Lines.{shares_none, shares_next}
 use Rattle.rules.specs.Replay.{leaf_line, share_lines_to, share_lines_of}
 use Rattle.lines.proofs.put_shares.Invariants.{Inv}
@@ -35,30 +30,16 @@ module _ {active : ℕ} {shares o₀ o : List ℕ} {at n : ℕ} (v : Inv active 
 
 pub loop-n-init : goal.loop-n-init
 loop-n-init c =
-    let start = c in
-    record { from = search rules; upto = search rules; front = begun start.args.active start.args.shares.now start.args.out.now; few = search rules }
-
-pub slice_bounds-put_leaf-count : goal.slice_bounds-put_leaf-count
-slice_bounds-put_leaf-count c = stands_left c.loop-n.invariant.front
-
-pub slice_bounds-put_leaf-start : goal.slice_bounds-put_leaf-start
-slice_bounds-put_leaf-start c = stands_left c.loop-n.invariant.front
+    record { from = search rules; upto = search rules; front = begun c.args.active c.args.shares.now c.args.out.now; few = search rules }
 
 pub put_leaf-at-requires : goal.put_leaf-at-requires
 put_leaf-at-requires c =
-    let turned = c in
-    let head = turned in
-    (omega (arith, turned.loop-n-test.true), asked head.loop-n.invariant head.requires (omega (arith, turned.loop-n-test.true)))
+    (omega (arith, c.loop-n-test.true), asked c.loop-n.invariant c.requires (omega (arith, c.loop-n-test.true)))
 
 pub loop-n-preserved : goal.loop-n-preserved
 loop-n-preserved c =
-    let called = c in
-    let turned = called in
-    turn turned.loop-n.invariant turned.requires (omega (arith, turned.loop-n-test.true)) called.put_leaf-at.result called.put_leaf-at.new.1.1.1.0
-    called.put_leaf-at.ensures.0 called.put_leaf-at.ensures.1
-
-pub shape_of-out : goal.shape_of-out
-shape_of-out c = stands_kept c.loop-n.invariant.front
+    turn c.loop-n.invariant c.requires (omega (arith, c.loop-n-test.true)) c.put_leaf-at.result c.put_leaf-at.new.out
+    c.put_leaf-at.ensures.0 c.put_leaf-at.ensures.1
 
 pub returns : goal.returns
 returns c = finished c.loop-n.invariant (omega (arith, c.loop-n-test.false))

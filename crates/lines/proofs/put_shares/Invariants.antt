@@ -1,15 +1,8 @@
 -- `lines::put_shares` meets its contract. The invariant: the leaves below n stand at the front, in at most 16 bytes each.
 -- Assumes nothing.
-use mathlib.Core.Path.{◌≡◌}
-use mathlib.Core.List.{List}
-use Prim.Native.Nat.{ℕ, ◌+◌, ◌-◌, ◌*◌, ◌≤◌, ◌<◌}
-use native.Mathlib.Omega.{arith}
-use lib.ListN.{length, get_or}
-use borrow.Author.Rules.{rules}
-use Rattle.rules.specs.Buffers.{Written, Stands, rest_of, put_back}
-use Rattle.rules.proofs.Laws.Buffers.{stands_none, stands_kept, stands_left, stands_rest, stands_more}
-use Rattle.rules.proofs.Laws.Lines.{shares_none, shares_next}
-use Rattle.rules.specs.Replay.{leaf_line, share_lines_to, share_lines_of}
+use Rattle.std.proofs.Common.{List, ℕ, ◌-◌, ◌*◌, ◌≤◌, ◌<◌}
+use Rattle.rules.specs.Buffers.{Stands}
+use Rattle.rules.specs.Replay.{share_lines_to}
 use Rattle.lines.proofs.put_shares.Given as goal
 
 pub record Inv (active : ℕ) (shares o₀ o : List ℕ) (at n : ℕ) : Type 0 where

@@ -1,50 +1,24 @@
 -- `lines::put_start` meets its contract: the number goes behind the letter and a blank.
 -- Assumes nothing.
-use mathlib.Core.List.{[], ◌∷◌, ◌++◌}
-use Prim.Native.Nat.{◌+◌}
-use native.Mathlib.Omega.{arith}
-use lib.ListN.{set, length-set, length-append}
-use borrow.Author.Rules.{rules}
+use Rattle.std.proofs.Common.{List, [], ◌∷◌, ◌++◌, ℕ, ◌+◌, ◌<◌, length, set, arith, length-append}
 use Rattle.rules.specs.Replay.{digits}
-use Rattle.rules.specs.Buffers.{Stands, put_back}
-use Rattle.rules.proofs.Laws.Buffers.{stands_kept, stands_rest, stands_more, stands_byte, stands_first}
+use Rattle.rules.specs.Buffers.{Written, Stands, rest_of, put_back}
+use Rattle.rules.proofs.Laws.Buffers.{stands_rest, stands_more, stands_byte, stands_first}
 use Rattle.lines.proofs.put_start.Goals as goal
 
 -- once the letter and the blank are written, and the number behind them
-begun-at : (c : goal.After-slice_known-1) →
-    let a = c.args in Stands (a.letter ∷ 32 ∷ []) a.out.now (set (set a.out.now 0 a.letter) 1 32) 2
-begun-at c =
-    let start = c in
-    stands_byte (stands_first start.args.out.now start.args.letter (omega arith)) (omega arith) 32
+module _ (letter a end : ℕ) (o₀ : List ℕ) (room : 2 + length (digits a) < length o₀) where
+  begun : Stands (letter ∷ 32 ∷ []) o₀ (set (set o₀ 0 letter) 1 32) 2
+  begun = stands_byte (stands_first o₀ letter (omega arith)) (omega arith) 32
 
-done_at : (c : goal.After-slice_known-2-1) →
-    let called = c in
-    let a = called.args in
-    Stands (a.letter ∷ 32 ∷ (digits a.a ++ (a.end ∷ []))) a.out.now
-    (put_back (set (set a.out.now 0 a.letter) 1 32) 2 called.put_number-count.new.1.1.0) (2 + called.put_number-count.result)
-done_at c =
-    let called = c in
-    let start = called in
-    stands_more (begun-at called) (digits start.args.a ++ (start.args.end ∷ [])) called.put_number-count.new.1.1.0 called.put_number-count.result called.put_number-count.ensures
-    (omega (arith, start.requires, rw length-append at called.put_number-count.ensures.0))
-
-pub bounds-out-1 : goal.bounds-out-1
-bounds-out-1 c = simp length-set (omega arith)
-
-pub slice_bounds-put_number-count : goal.slice_bounds-put_number-count
-slice_bounds-put_number-count c = simp length-set (omega arith)
-
-pub slice_bounds-put_number-start : goal.slice_bounds-put_number-start
-slice_bounds-put_number-start c = simp length-set (omega arith)
+  done : (r : ℕ) (ys : List ℕ) → Written (digits a ++ (end ∷ [])) r (rest_of (set (set o₀ 0 letter) 1 32) 2) ys
+      → Stands (letter ∷ 32 ∷ (digits a ++ (end ∷ []))) o₀ (put_back (set (set o₀ 0 letter) 1 32) 2 ys) (2 + r)
+  done r ys w = stands_more begun (digits a ++ (end ∷ [])) ys r w (omega (arith, room, rw length-append at w.0))
 
 pub put_number-count-requires : goal.put_number-count-requires
-put_number-count-requires c = rw (stands_rest (begun-at c)) (omega arith)
-
-pub overflow_add-result : goal.overflow_add-result
-overflow_add-result c = omega (arith, (done_at c).within, c.well_formed.1.1.1.0.0)
-
-pub shape_of-out : goal.shape_of-out
-shape_of-out c = stands_kept (done_at c)
+put_number-count-requires c = rw (stands_rest (begun c.args.letter c.args.a c.args.end c.args.out.now c.requires)) (omega arith)
 
 pub returns : goal.returns
-returns c = (done_at c).front
+returns c =
+    (done c.args.letter c.args.a c.args.end c.args.out.now c.requires c.put_number-count.result c.put_number-count.new.out
+    c.put_number-count.ensures).front

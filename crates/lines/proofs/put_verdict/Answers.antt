@@ -1,6 +1,6 @@
 -- `lines::put_verdict` meets its contract: nothing is written of what was accepted.
 -- Assumes nothing.
-use borrow.Author.Rules.{rules}
+use Rattle.std.proofs.Common.{rules}
 use Rattle.rules.specs.Replay.{verdict_lines}
 use Rattle.lines.proofs.put_verdict.Goals as goal
 

@@ -1,7 +1,6 @@
 -- `cleared` meets its contract: a leaf that stays is left in the set, and any other is taken out.
 -- Assumes nothing.
 use mathlib.Core.Path.{sym, ◌∙◌}
-use borrow.Author.Rules.{rules}
 use Rattle.plan.proofs.Turns.{left_in, taken_out}
 use Rattle.plan.proofs.cleared.Goals as goal
 

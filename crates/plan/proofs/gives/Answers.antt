@@ -1,7 +1,6 @@
 -- `gives` meets its contract: the test is that the leaf is active, and the rest is said of its row with the debt forgiven.
 -- Assumes nothing.
 use mathlib.Core.Path.{ap, ◌∙◌}
-use borrow.Author.Rules.{rules}
 use Rattle.leaf.specs.Alone.{is_donor_with}
 use Rattle.rules.specs.declared.budget.Row.{Row}
 use Rattle.plan.proofs.gives.Goals as goal

@@ -1,7 +1,6 @@
 -- `grown` meets its contract: a node inside is put in, and a node outside adds nothing.
 -- Assumes nothing.
 use mathlib.Core.Path.{sym, ◌∙◌}
-use borrow.Author.Rules.{rules}
 use Rattle.plan.proofs.Turns.{left_out, put_in}
 use Rattle.plan.proofs.grown.Goals as goal
 

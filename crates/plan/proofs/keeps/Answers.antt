@@ -1,7 +1,6 @@
 -- `keeps` meets its contract: what is said of a row is said of the row with its debt forgiven.
 -- Assumes nothing.
 use mathlib.Core.Path.{ap, ◌∙◌}
-use borrow.Author.Rules.{rules}
 use Rattle.leaf.specs.Alone.{stays_with}
 use Rattle.rules.specs.declared.budget.Row.{Row}
 use Rattle.plan.proofs.keeps.Goals as goal

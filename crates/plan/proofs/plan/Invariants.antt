@@ -1,11 +1,7 @@
 -- `plan` meets its contract: it is refused by the rule's own test, and else its parts make the state of the rules.
 -- Assumes nothing.
-use Prim.Native.Nat.{◌-◌, ◌≤◌, ◌<◌}
-use borrow.Author.Rules.{rules}
-use borrow.Author.Tests.{not-true, not-false}
-use Rattle.rules.proofs.Laws.Refusals.{plan_on_paper}
-use Rattle.plan.specs.Sharing.{Shown}
-use Rattle.plan.proofs.Steps.{CountedTo, count_put, shown, passed, refused, put_in, accepted}
+use Prim.Native.Nat.{◌-◌, ◌≤◌}
+use Rattle.plan.proofs.Steps.{CountedTo}
 use Rattle.plan.proofs.plan.Given as goal
 
 abbrev pub invariant-loop-n : goal.invariant-loop-n

@@ -2,7 +2,6 @@
 -- Assumes nothing.
 use Prim.Native.Nat.{◌+◌, ◌*◌, ◌^◌, ◌≤◌}
 use native.Mathlib.Omega.{arith}
-use borrow.Author.Rules.{rules}
 use Rattle.plan.specs.Steps.{closed_row}
 use Rattle.plan.proofs.planned_row.Goals as goal
 
@@ -12,7 +11,6 @@ returns c = rw (c.rebudget-scaled.ensures, c.plan_row-closed.ensures)
 
 pub rebudget-scaled-requires : goal.rebudget-scaled-requires
 rebudget-scaled-requires c =
-    let start = c in
-    let a = start.args in
-    let fits : (closed_row a.quiet a.stay a.row).budget.0 * a ≤ 2 ^ 61 + 2 ^ 30 = start.requires in
+    let a = c.args in
+    let fits : (closed_row a.quiet a.stay a.row).budget.0 * a.before ≤ 2 ^ 61 + 2 ^ 30 = c.requires in
     rw c.plan_row-closed.ensures (omega arith)

@@ -1,18 +1,13 @@
 -- `shared` meets its contract: the test is the rule's own.
 -- Assumes nothing.
 use mathlib.Core.Path.{sym, ◌∙◌}
-use borrow.Author.Rules.{rules}
 use Rattle.plan.proofs.shared.Goals as goal
 
 pub donated-shares-requires : goal.donated-shares-requires
-donated-shares-requires c =
-    let test = c in
-    test.requires.donation (sym test.is_donation.ensures ∙ test.if-is_donation.true)
+donated-shares-requires c = c.requires.donation (sym c.is_donation.ensures ∙ c.if-is_donation.true)
 
 pub returns-then-is_donation : goal.returns-then-is_donation
-returns-then-is_donation c =
-    let test = c in
-    rw (sym test.is_donation.ensures ∙ test.if-is_donation.true, c.donated-shares.ensures)
+returns-then-is_donation c = rw (sym c.is_donation.ensures ∙ c.if-is_donation.true, c.donated-shares.ensures)
 
 pub returns-else-is_donation : goal.returns-else-is_donation
 returns-else-is_donation c = rw (sym c.is_donation.ensures ∙ c.if-is_donation.false)

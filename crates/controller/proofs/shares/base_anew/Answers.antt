@@ -1,6 +1,5 @@
 -- `base_anew` meets its contract: the base shares of the tree, and the rows of `rebudgeted`.
 -- Assumes nothing.
-use borrow.Author.Rules.{rules}
 use Rattle.controller.proofs.shares.base_anew.Goals as goal
 
 pub returns : goal.returns

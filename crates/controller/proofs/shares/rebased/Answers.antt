@@ -1,6 +1,5 @@
 -- `rebased` meets its contract: base shares anew are put in, and nobody gives.
 -- Assumes nothing.
-use borrow.Author.Rules.{rules}
 use Rattle.controller.proofs.Anew.{anew_put}
 use Rattle.controller.proofs.shares.rebased.Goals as goal
 

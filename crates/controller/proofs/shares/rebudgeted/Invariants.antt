@@ -1,16 +1,13 @@
 -- `rebudgeted` meets its contract. The invariant: the rows below n have their scaled budgets, the others are as they came.
 -- Assumes nothing.
-use mathlib.Core.Path.{◌≡◌, refl}
+use mathlib.Core.Path.{◌≡◌}
 use mathlib.Core.List.{List}
-use Prim.Native.Nat.{ℕ, ◌+◌, ◌-◌, ◌*◌, ◌^◌, ◌≤◌, ◌<◌}
-use native.Mathlib.Omega.{arith}
-use borrow.Author.Rules.{rules}
-use lib.ListN.{length, get_or, set}
+use Prim.Native.Nat.{ℕ, ◌-◌, ◌≤◌}
+use lib.ListN.{get_or}
 use Rattle.rules.specs.Words.{table}
 use Rattle.rules.specs.Budget.{empty_row, with_budget, rebudget}
-use Rattle.rules.proofs.Laws.Sweeps.{swept, place_here, place_put, places_done}
+use Rattle.rules.proofs.Laws.Sweeps.{swept}
 use Rattle.rules.specs.declared.budget.Row.{Row}
-use Rattle.rules.specs.declared.units.Virt.{Virt}
 use Rattle.controller.proofs.shares.rebudgeted.Given as goal
 
 abbrev pub scaled : List ℕ → List ℕ → List Row → ℕ → Row

@@ -1,6 +1,5 @@
 -- `leafless` meets its contract: a tree with no node has no leaf.
 -- Assumes nothing.
-use borrow.Author.Rules.{rules}
 use mathlib.Core.Path.{◌∙◌}
 use Rattle.rules.specs.Words.{any_to, set_to}
 use Rattle.rules.specs.Tree.{last, is_leaf, leaves_of}
@@ -8,4 +7,4 @@ use Rattle.controller.proofs.start.leafless.Goals as goal
 
 pub returns : goal.returns
 unfolding leaves_of set_to is_leaf last any_to
-returns c = c.new.ensures.0 ∙ rw c.slowest.ensures
+returns c = c.new.ensures.value ∙ rw c.slowest.ensures

@@ -1,6 +1,5 @@
 -- `refused` meets its contract, whatever start was asked.
 -- Assumes nothing.
-use borrow.Author.Rules.{rules}
 use Rattle.rules.specs.Entries.{started_by}
 use Rattle.controller.proofs.start.refused.Goals as goal
 

@@ -1,6 +1,5 @@
 -- `vrate_verdict` meets its contract: the one check of the rule.
 -- Assumes nothing.
-use borrow.Author.Rules.{rules}
 use mathlib.Core.Path.{◌≡◌, sym, ◌∙◌}
 use mathlib.Core.Bool.{true, false}
 use Rattle.rules.specs.Plan.{vrate_in_range}

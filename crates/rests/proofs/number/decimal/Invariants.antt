@@ -1,0 +1,16 @@
+-- `rests::number::decimal` meets its contract: the digits that are left, behind what was read, make the number of the word.
+-- Assumes nothing.
+use borrow.Author.Rules.{rules}
+use mathlib.Core.Path.{◌≡◌, sym, ◌∙◌}
+use Prim.Native.Nat.{◌-◌, ◌^◌, ◌≤◌, ◌<◌}
+use native.Mathlib.Omega.{arith}
+use lib.ListN.{length, drop}
+use Rattle.rests.specs.Decimal.{behind, decimal_of}
+use Rattle.rests.proofs.Decimals.{goes_on, stops, ends, no_digits, some_digits}
+use Rattle.rests.proofs.number.decimal.Given as goal
+
+abbrev pub invariant-loop-i : goal.invariant-loop-i
+invariant-loop-i l = (l.i ≤ length l.word) × ((l.value < 2 ^ 64) × (behind l.value (drop l.i l.word) ≡ decimal_of l.word))
+
+abbrev pub decreases-loop-i : goal.decreases-loop-i
+decreases-loop-i l = length l.word - l.i

@@ -1,0 +1,38 @@
+-- `rule` meets its contract: each way out by the tests that led there.
+-- Assumes nothing.
+use borrow.Author.Rules.{rules}
+use borrow.Author.Tests.{not-true, not-false}
+use Rattle.submit.proofs.Rulings.{no_leaf_ruled, uncosted_ruled, can_answer, active_ruled, inactive_ruled}
+use Rattle.submit.proofs.rule.Goals as goal
+
+pub returns-then-not-own : goal.returns-then-not-own
+returns-then-not-own c = no_leaf_ruled _ _ (not-true _ c.if-not-own.true)
+
+pub returns-then-own : goal.returns-then-own
+returns-then-own c =
+    let wide = c in
+    let costed = wide in
+    let asked = costed in
+    active_ruled _ _ (not-false _ asked.if-not-own.false) asked.cost_of-costing.ensures.value costed.in-Costs.is
+    wide.if-own.true wide.is_forced-forced.ensures wide.wide.ensures c.when_active-answer.ensures
+
+pub returns-else-own : goal.returns-else-own
+returns-else-own c =
+    let rest = c in
+    let costed = rest in
+    let asked = costed in
+    inactive_ruled _ _ (not-false _ asked.if-not-own.false) asked.cost_of-costing.ensures.value costed.in-Costs.is
+    rest.if-own.false rest.is_forced-forced.ensures c.when_inactive-answer.ensures
+
+pub returns-in-Refused : goal.returns-in-Refused
+returns-in-Refused c =
+    let costed = c in
+    let asked = costed in
+    uncosted_ruled _ _ (not-false _ asked.if-not-own.false) asked.cost_of-costing.ensures.value costed.in-Refused.is
+
+pub when_active-answer-requires : goal.when_active-answer-requires
+when_active-answer-requires c =
+    let costed = c in
+    let asked = costed in
+    can_answer _ _ (not-false _ asked.if-not-own.false) asked.cost_of-costing.ensures.value costed.in-Costs.is
+    asked.requires c.if-own.true c.wide.ensures

@@ -1,0 +1,15 @@
+-- `when_active` meets its contract: the answer and the verdict are those of the rules.
+-- Assumes nothing.
+use borrow.Author.Rules.{rules}
+use Rattle.submit.proofs.Shapes.{answers, refuses}
+use Rattle.submit.proofs.when_active.Goals as goal
+
+pub returns-in-Accepted : goal.returns-in-Accepted
+returns-in-Accepted c =
+    let judging = c in
+    answers _ _ _ _ _ judging.answer_to-answer.ensures judging.room-verdict.ensures c.in-Accepted.is
+
+pub returns-in-Refused : goal.returns-in-Refused
+returns-in-Refused c =
+    let judging = c in
+    refuses _ _ _ _ _ judging.answer_to-answer.ensures judging.room-verdict.ensures _ c.in-Refused.is
