@@ -1,4 +1,1 @@
 pub mod Handing
-pub mod Elem
-pub mod Shell
-pub mod Asking

@@ -1,6 +1,7 @@
 // Request Six, the question: what a bio would be answered, asked before it is sent. "The state stays": a question is lent it,
 // copies out what is the bio's node's own, and hands that on. Nothing is written, and no state is handed back.
 #![tactic(auto)]
+
 ghost use Rattle.std.specs.Prelude.{◌≡◌};
 ghost use Rattle.rules.specs.Budget.{would_be};
 ghost use Rattle.rules.specs.Refusals.{answer_paper, answer_values, paper_of, submit_checks};
@@ -23,8 +24,7 @@ pub fn answer(bio: Bio, own: Own) -> Answer
     ruled.answer
 }
 
-// What `ask` copied out of the state goes on from here: `ask` itself is proved step by step, so whatever is worked out is not
-// in it.
+// What `ask` copied out of the state goes on from here: whatever is worked out is not in `ask`.
 fn handed(
     bio: Bio,
     node: usize,

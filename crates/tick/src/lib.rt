@@ -2,6 +2,7 @@
 // queues decide 13. Then each active leaf has its turn, which is the crate leaf's, and writes its released ids behind those
 // of the leaves before it, into the rest of the lent buffer.
 #![tactic(auto)]
+
 ghost use Rattle.std.specs.Prelude.{◌≡◌, [], ◌∷◌, length};
 ghost use Rattle.rules.specs.Tick.{growth, releases};
 ghost use Rattle.rules.specs.Refusals.{count_paper, paper_of, tick_checks};

@@ -1,35 +1,30 @@
--- `tick::tick` meets its contract. The loop's invariant is `Counted`: what waits in the queues below n.
--- The measure is how many places are left.
+-- `tick::tick` meets its contract, by what its loop counted: all that waits.
 -- Assumes nothing.
 use mathlib.Core.Path.{◌≡◌}
-use Prim.Native.Nat.{◌-◌}
+use Prim.Native.Nat.{ℕ, ◌≤◌}
 use native.Mathlib.Omega.{arith}
-use borrow.Author.Rules.{rules}
 use lib.ListN.{length}
 use Rattle.rules.specs.Refusals.{first_of, tick_checks}
 use Rattle.rules.proofs.Laws.Passes.{tick_passes}
 use Rattle.rules.proofs.Laws.Refusals.{tick_on_paper}
 use Rattle.rules.specs.declared.refusals.Verdict.TheVariants.{Accepted}
 use Rattle.tick.proofs.Answers.{Counted, none-counted, one-counted, count_small, all-counted, clock-refuses, too-few-places, enough-places, refuses, accepts}
+use Rattle.rules.specs.Numbers.{nodes_most}
+use Rattle.rules.specs.Invariant.{Sound}
+use Rattle.rules.specs.declared.budget.Controller.{Controller}
+use Rattle.rules.specs.declared.refusals.Verdict.{Verdict}
+use Rattle.tick.specs.Clocks.{clock_checks}
 use Rattle.tick.proofs.tick.Goals as goal
 
 -- the clock's checks and the places were passed
-abbrev start : goal.Else-out-waiting → goal.Start
-start c = c
-
-passes : (c : goal.Else-out-waiting)
-    → first_of (tick_checks (start c).args.time (length (start c).args.out.now) (start c).args.t1) ≡ Accepted
-passes c =
-    let at = c in
-    let a = (start c).args in
-    enough-places a.time (length a.out.now) a.t1 at.verdict-verdict.ensures at.in_default.is
-    (all-counted (start c).requires at.loop-n.invariant (omega (arith, c.loop-n-test.false))) c.if-out-waiting.false
+passes : {c : Controller} {waiting n : ℕ} {v : Verdict} (time places : ℕ) → Sound c → Counted c waiting n → nodes_most ≤ n
+    → v ≡ first_of (clock_checks time c.clock) → v ≡ Accepted → waiting ≤ places → first_of (tick_checks time places c) ≡ Accepted
+passes {c} time places sound counted over e f room = enough-places time places c e f (all-counted sound counted over) room
 
 pub returns-in-Refused : goal.returns-in-Refused
-returns-in-Refused c = let checked = c in
-    let a = checked.args in
-    let e =
-    refuses a.time a.out.now a.t1 (clock-refuses a.time (length a.out.now) a.t1 checked.verdict-verdict.ensures c.in-Refused.is) in
+returns-in-Refused c =
+    let a = c.args in
+    let e = refuses a.time a.out.now a.c (clock-refuses a.time (length a.out.now) a.c c.verdict-verdict.ensures c.in-Refused.is) in
     record { value = e; number = tick_on_paper _ _ _ e.0 }
 
 pub loop-n-init : goal.loop-n-init
@@ -37,31 +32,25 @@ loop-n-init c = none-counted _
 
 pub overflow_add-waiting : goal.overflow_add-waiting
 overflow_add-waiting c =
-    let at = c in
-    let start = at in
-    record { fits = omega (arith, count_small start.requires at.loop-n.invariant (omega (arith, c.loop-n-test.true)) c.wide-waiting.ensures) }
+    record { fits = omega (arith, count_small c.requires c.loop-n.invariant (omega (arith, c.loop-n-test.true)) c.wide-waiting.ensures) }
 
 pub loop-n-preserved : goal.loop-n-preserved
-loop-n-preserved c =
-    let at = c in
-    let start = at in
-    one-counted start.requires at.loop-n.invariant (omega (arith, c.loop-n-test.true)) c.wide-waiting.ensures
+loop-n-preserved c = one-counted c.requires c.loop-n.invariant (omega (arith, c.loop-n-test.true)) c.wide-waiting.ensures
 
 pub returns-then-out-waiting : goal.returns-then-out-waiting
-returns-then-out-waiting c = let at = c in
-    let checked = at in
-    let start = checked in
-    let a = start.args in
-    let e =
-    refuses a.time a.out.now a.t1
-    (too-few-places a.time (length a.out.now) a.t1 checked.verdict-verdict.ensures at.in_default.is
-    (all-counted start.requires at.loop-n.invariant (omega (arith, c.loop-n-test.false))) (omega (arith, c.if-out-waiting.true))) in
+returns-then-out-waiting c =
+    let a = c.args in
+    let few =
+    too-few-places a.time (length a.out.now) a.c c.verdict-verdict.ensures c.in_default.is
+    (all-counted c.requires c.loop-n.invariant (omega (arith, c.loop-n-test.false))) (omega (arith, c.if-out-waiting.true)) in
+    let e = refuses a.time a.out.now a.c few in
     record { value = e; number = tick_on_paper _ _ _ e.0 }
 
 pub accepted-requires : goal.accepted-requires
-accepted-requires c = (c.requires, tick_passes _ _ _ (passes c))
+accepted-requires c =
+    (c.requires, tick_passes _ _ _ (passes _ _ c.requires c.loop-n.invariant (omega (arith, c.loop-n-test.false)) c.verdict-verdict.ensures c.in_default.is c.if-out-waiting.false))
 
 pub returns : goal.returns
-returns c = let e =
-    accepts _ _ _ (passes c) c.accepted.ensures in
+returns c =
+    let e = accepts _ _ _ (passes _ _ c.requires c.loop-n.invariant (omega (arith, c.loop-n-test.false)) c.verdict-verdict.ensures c.in_default.is c.if-out-waiting.false) c.accepted.ensures in
     record { value = e; number = tick_on_paper _ _ _ e.0 }

@@ -1,6 +1,5 @@
 -- `tick::clock::advanced` meets its contract: virtual time and E stay far below 2^64, and what is left over fits in a byte.
 -- Assumes nothing.
-use borrow.Author.Rules.{rules}
 use native.Mathlib.Omega.{arith}
 use Rattle.rules.specs.Tick.{left_over, advanced}
 use Rattle.tick.proofs.Clocks.{vtime_fits, since_fits}

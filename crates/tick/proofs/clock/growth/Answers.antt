@@ -1,6 +1,5 @@
 -- `tick::clock::growth` meets its contract.
 -- Assumes nothing.
-use borrow.Author.Rules.{rules}
 use Rattle.rules.specs.Tick.{growth}
 use Rattle.tick.proofs.clock.growth.Goals as goal
 

@@ -1,7 +1,6 @@
 -- `tick::clock::hundredths` meets its contract: elapsed x vrate is at most 10^9 x 400, and less than 100 is added.
 -- Assumes nothing.
 use mathlib.Core.Path.{refl}
-use borrow.Author.Rules.{rules}
 use Rattle.rules.specs.Tick.{hundredths}
 use Rattle.tick.proofs.Clocks.{sum_fits, product_fits}
 use Rattle.tick.proofs.clock.hundredths.Goals as goal

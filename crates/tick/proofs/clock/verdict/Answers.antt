@@ -2,7 +2,6 @@
 -- Assumes nothing.
 use mathlib.Core.Path.{sym}
 use borrow.Author.Rules.{rules}
-use Rattle.tick.specs.Clocks.{Near}
 use Rattle.tick.proofs.Clocks.{vtime_fits, earlier, too_far, clock_is_full, plan_is_due, time_passes}
 use Rattle.tick.proofs.clock.verdict.Goals as goal
 
