@@ -3,16 +3,12 @@
 -- Assumes nothing.
 use mathlib.Core.Path.{◌≡◌, refl, sym, ap, ◌∙◌}
 use mathlib.Core.Bool.{Bool, true, false, cond, not, ◌&&◌}
-use mathlib.Core.List.{[], ◌∷◌}
-use mathlib.Core.Logic.{inl, inr}
 use Prim.Native.Nat.{ℕ, ◌*◌, ◌≤◌, ◌<◌}
 use native.Mathlib.Nat.{mul-le-mul, le_trans}
 use native.Mathlib.Omega.{arith}
 use lib.Dec.{ltb}
 use lib.ListN.{get_or, set}
 use lib.Seq.{set-get_or}
-use types.Run.{OneOf}
-use denote.Enum.Declared.{tag_of}
 use borrow.Author.Tests.{lt-ltb, le-ltb, ltb-true, ltb-false}
 use Rattle.rules.specs.Numbers.{nodes_most, queue_room}
 use Rattle.rules.specs.Words.{has}
@@ -52,7 +48,6 @@ use Rattle.submit.specs.declared.Shares.{Shares}
 use Rattle.submit.specs.declared.Shares.TheVariants.{Stand, Activate, Return}
 use Rattle.submit.specs.declared.Decision.{Decision}
 use Rattle.submit.specs.OnLeaf.{is_taken, CanRule, CanBook, queued, booked_by, on_leaf}
-use Rattle.submit.specs.contracts.Shares.{the_type}
 use Rattle.submit.proofs.Shapes.{leaf_node, at_node, found, model_is_sound, no_leaf_lem, unfit, Ready, ready_there, landed, submits, joins_to_wait, no_budget_gained, wakes, woken_within}
 use Rattle.submit.proofs.Rulings.{no_leaf_ruled, uncosted_ruled, active_ruled, inactive_ruled, taken_is, booking_there, waits_there}
 use Rattle.submit.specs.Decision.{place_of, view_of, view_at, CanDecide, shares_after, declined, activates, judged_at, own_in, decision_by, decision}
@@ -187,9 +182,10 @@ module _ (b : Bio) (r : Decision) (n : ℕ) (c : Controller) where
   abbrev Put : Controller → Type 0
   Put d = d ≡ put_leaf n r.row (queued r.queue b.id (queue_at c n)) c
 
-  pub joining : {cost : Abs} {q : Queue} → r.queue ≡ Joins cost → q ≡ pushed b.id cost (queue_at c n) → Put (put_leaf n r.row q c)
+  pub joining : Sound c → n ≡ place_of b → {cost : Abs} {q : Queue} → r.queue ≡ Joins cost
+      → q ≡ pushed b.id cost (get_or c.queues n (length_only 0)) → Put (put_leaf n r.row q c)
   unfolding queued
-  joining e i = rw (e, i)
+  joining s p {cost} e i = rw (e, i ∙ ap (pushed b.id cost) (queue_read s (at_node p (place_inside b))))
 
   pub as_it_was : r.queue ≡ Stays → Put (with_books (set c.rows n r.row) c.queues c)
   unfolding queued
@@ -201,17 +197,16 @@ module _ (b : Bio) (r : Decision) (n : ℕ) (c : Controller) {p : Controller} (q
   unfolding returned
   returning e i = rw (e, i, q)
 
-  pub staying : OneOf (0 ∷ 1 ∷ []) (tag_of the_type r.shares) → ◌≡◌ {A = Submitted} (record { answer = r.answer; state = p }) (carried b n r c)
+  pub staying : (r.shares ≡ Return → ⊥) → ◌≡◌ {A = Submitted} (record { answer = r.answer; state = p }) (carried b n r c)
   unfolding returned
   staying k = rw q (go r.shares k)
     where
-      go : (s : Shares) → OneOf (0 ∷ 1 ∷ []) (tag_of the_type s)
+      go : (s : Shares) → (s ≡ Return → ⊥)
           → ◌≡◌ {A = Submitted} (record { answer = r.answer; state = put_leaf n r.row (queued r.queue b.id (queue_at c n)) c })
           (record { answer = r.answer; state = returned s (put_leaf n r.row (queued r.queue b.id (queue_at c n)) c) })
       go Stand k = refl
       go Activate k = refl
-      go Return (inl e) = absurd (omega arith)
-      go Return (inr e) = absurd (omega arith)
+      go Return k = absurd (k refl)
 
 module _ (b : Bio) (c : Controller) (n : ℕ) where
   -- a row and a queue put back as they were
@@ -313,9 +308,15 @@ pub record Carries (b : Bio) (c : Controller) (n : ℕ) (r : Decision) (d : Cont
   pub same : r ≡ decision b n (view_at n d)
   pub whole : carried b n r d ≡ submitted b c
 
-not_active : OneOf (0 ∷ 2 ∷ []) (tag_of the_type Activate) → ◌≡◌ {A = ℕ} 0 1
-not_active (inl e) = absurd (omega arith)
-not_active (inr e) = absurd (omega arith)
+-- ---- what is asked of a view, and what is decided by it
+module _ {c : Controller} (s : Sound c) (b : Bio) {n : ℕ} (p : n ≡ place_of b) {v : View}
+    (f : v ≡ view_of c.leaves c.active c.donors c.model (share_at c n) (row_at c n) (get_or c.queues n (length_only 0)).len)
+  where
+    pub can_decide_seen : CanDecide n v
+    can_decide_seen = rw (seen s (at_node p (place_inside b)) f) (can_decide s (at_node p (place_inside b)))
+
+    pub decided_seen : {r : Decision} → r ≡ decision b n v → r ≡ decision b n (view_at n c)
+    decided_seen e = e ∙ ap (decision b n) (seen s (at_node p (place_inside b)) f)
 
 -- ---- what is decided in a sound state
 module _ {c : Controller} (s : Sound c) (b : Bio) {n : ℕ} (p : n ≡ place_of b) {r : Decision} (e : r ≡ decision b n (view_at n c)) where
@@ -344,7 +345,7 @@ module _ {c : Controller} (s : Sound c) (b : Bio) {n : ℕ} (p : n ≡ place_of 
       )
 
   -- no leaf is to become active: it is what the rule says
-  pub settles : OneOf (0 ∷ 2 ∷ []) (tag_of the_type r.shares) → carried b n r c ≡ submitted b c
+  pub settles : (r.shares ≡ Activate → ⊥) → carried b n r c ≡ submitted b c
   settles k = rw e (go (has c.leaves n) refl)
     where
       awake : is_leaf c.tree b.node ≡ true → (cost : Abs) → costing c.model (row_at c n) b ≡ Costs cost → (u : Bool) → has c.active n ≡ u
@@ -352,7 +353,7 @@ module _ {c : Controller} (s : Sound c) (b : Bio) {n : ℕ} (p : n ≡ place_of 
       awake l cost f true o = lands s b l cost (found b c (here l) refl f) (here l) (sym (entered_active n c o))
       awake l cost f false o =
           let first : activates (when_inactive (is_forced b)) (view_at n c) ≡ decision b n (view_at n c) = rests_decides b n (view_at n c) (leaf_is ∙ l) f o in
-          never (not_active (rw (e ∙ sym first) at k))
+          absurd (k (rw (e ∙ sym first)))
 
       costed : is_leaf c.tree b.node ≡ true → (x : Costing) → costing c.model (row_at c n) b ≡ x
           → carried b n (decision b n (view_at n c)) c ≡ submitted b c
@@ -367,7 +368,7 @@ module _ {c : Controller} (s : Sound c) (b : Bio) {n : ℕ} (p : n ≡ place_of 
           ap (λ (q : Decision). carried b n q c) (sym (no_leaf_decides b n (view_at n c) l))
           ∙ declined_carried b c n NoLeaf ∙ no_leaf_lem s b (sym leaf_is ∙ l)
 
-  pub at_once : OneOf (0 ∷ 2 ∷ []) (tag_of the_type r.shares) → Carries b c n r c
+  pub at_once : (r.shares ≡ Activate → ⊥) → Carries b c n r c
   at_once k = record { sound = s; same = e; whole = settles k }
 
   -- ---- the leaf is to become active

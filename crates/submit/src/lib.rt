@@ -4,6 +4,7 @@
 // the answer does to that leaf and to the shares, from what it is shown of one leaf. The caller that holds the state, which is
 // `submit` here or a run of calls, carries this out where the state stands.
 #![tactic(auto)]
+
 ghost use Rattle.std.specs.Prelude.{◌≡◌, ◌^◌, ◌≤◌, ◌<◌};
 ghost use Rattle.rules.specs.Numbers.{cost_most, debt_most, nodes_most, queue_room};
 ghost use Rattle.rules.specs.Budget.{pushed, noted as noted_of, ends_donation, would_be};
@@ -345,6 +346,7 @@ pub fn decide(bio: Bio, node: usize, view: View) -> Decision
 
 // Submit a bio. The state stands in this one function, which changes it in place and hands it on once: to copy it takes
 // longer than all that is worked out here.
+#[tactic(auto, using(crate::proofs::Decisions::place_inside))]
 pub fn submit(mut c: Controller, bio: Bio) -> Submitted
     requires { Sound c }
     ensures value { result ≡ submitted bio c }

@@ -1,7 +1,6 @@
 -- `booked` meets its contract: what is taken is booked, and what is refused leaves all as it was.
 -- Assumes nothing.
 use mathlib.Core.Path.{sym, ◌∙◌}
-use borrow.Author.Rules.{rules}
 use Rattle.rules.proofs.Laws.Costs.{bio_in_range_lem}
 use Rattle.submit.proofs.Shapes.{books, books_nothing}
 use Rattle.submit.proofs.booked.Goals as goal

@@ -1,6 +1,5 @@
 -- `decide` meets its contract: what is ruled is booked, unless the leaf is to become active first.
 -- Assumes nothing.
-use borrow.Author.Rules.{rules}
 use Rattle.submit.proofs.Decisions.{can_rule, activates_first, can_book, judges}
 use Rattle.submit.proofs.decide.Goals as goal
 

@@ -1,6 +1,5 @@
 -- `own_of` meets its contract: each part is the one that it is handed.
 -- Assumes nothing.
-use borrow.Author.Rules.{rules}
 use Rattle.submit.proofs.own_of.Goals as goal
 
 pub returns : goal.returns

@@ -1,6 +1,5 @@
 -- `place_of` meets its contract.
 -- Assumes nothing.
-use borrow.Author.Rules.{rules}
 use borrow.Author.Tests.{lt-ltb, le-ltb}
 use Rattle.submit.specs.Decision.{place_of}
 use Rattle.submit.proofs.place_of.Goals as goal

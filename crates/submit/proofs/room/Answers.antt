@@ -1,7 +1,6 @@
 -- `room` meets its contract: each way out by the answer and the test that led there.
 -- Assumes nothing.
 use Rattle.submit.proofs.Shapes.{full, place, over, under, issues, declines}
-use borrow.Author.Rules.{rules}
 use Rattle.submit.proofs.room.Goals as goal
 
 pub returns-then-waiting-ge-ROOM : goal.returns-then-waiting-ge-ROOM

@@ -1,6 +1,5 @@
 -- `rule` meets its contract: each way out by the tests that led there.
 -- Assumes nothing.
-use borrow.Author.Rules.{rules}
 use borrow.Author.Tests.{not-true, not-false}
 use Rattle.submit.proofs.Rulings.{no_leaf_ruled, uncosted_ruled, can_answer, active_ruled, inactive_ruled}
 use Rattle.submit.proofs.rule.Goals as goal

@@ -1,6 +1,5 @@
 -- `shares_after` meets its contract.
 -- Assumes nothing.
-use borrow.Author.Rules.{rules}
 use Rattle.submit.specs.Decision.{shares_after}
 use Rattle.submit.proofs.shares_after.Goals as goal
 

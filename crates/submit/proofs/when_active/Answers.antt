@@ -1,6 +1,5 @@
 -- `when_active` meets its contract: the answer and the verdict are those of the rules.
 -- Assumes nothing.
-use borrow.Author.Rules.{rules}
 use Rattle.submit.proofs.Shapes.{answers, refuses}
 use Rattle.submit.proofs.when_active.Goals as goal
 

@@ -1,11 +1,6 @@
 -- `rests::number::decimal` meets its contract: the digits that are left, behind what was read, make the number of the word.
 -- Assumes nothing.
-use borrow.Author.Rules.{rules}
-use mathlib.Core.Path.{◌≡◌, sym, ◌∙◌}
-use Prim.Native.Nat.{◌-◌, ◌^◌, ◌≤◌, ◌<◌}
-use native.Mathlib.Omega.{arith}
-use lib.ListN.{length, drop}
-use Rattle.rests.specs.Decimal.{behind, decimal_of}
+use Rattle.std.proofs.Common.{sym, ◌∙◌, arith, rules}
 use Rattle.rests.proofs.Decimals.{goes_on, stops, ends, no_digits, some_digits}
 use Rattle.rests.proofs.number.decimal.Goals as goal
 
@@ -17,26 +12,16 @@ loop-i-init c = (omega arith, (omega arith, sym (some_digits _ c.if-word-eq0.fal
 
 pub returns-in_default : goal.returns-in_default
 returns-in_default c =
-    let called = c in
-    let loop = called in
-    let start = loop in
-    sym (stops start.args.word.now loop.loop-i.i loop.loop-i.value called.loop-i-test.true (sym called.with_digit.ensures ∙ c.in_default.is))
-    ∙ loop.loop-i.invariant.1.1
+    sym (stops c.args.word.now c.loop-i.i c.loop-i.value c.loop-i-test.true (sym c.with_digit.ensures ∙ c.in_default.is)) ∙ c.loop-i.invariant.1.1
 
 pub loop-i-preserved : goal.loop-i-preserved
-loop-i-preserved c =
-    let called = c in
-    let loop = called in
-    let start = loop in (
-      omega arith,
-      (
-        search rules,
-        sym (goes_on start.args.word.now loop.loop-i.i loop.loop-i.value called.loop-i-test.true (sym called.with_digit.ensures ∙ c.in-Is.is))
-            ∙ loop.loop-i.invariant.1.1,
-      ),
-    )
+loop-i-preserved c = (
+  omega arith,
+  (
+    search rules,
+    sym (goes_on c.args.word.now c.loop-i.i c.loop-i.value c.loop-i-test.true (sym c.with_digit.ensures ∙ c.in-Is.is)) ∙ c.loop-i.invariant.1.1,
+  ),
+)
 
 pub returns : goal.returns
-returns c =
-    let loop = c in
-    sym (ends _ _ _ c.loop-i-test.false loop.loop-i.invariant.1.0) ∙ loop.loop-i.invariant.1.1
+returns c = sym (ends _ _ _ c.loop-i-test.false c.loop-i.invariant.1.0) ∙ c.loop-i.invariant.1.1

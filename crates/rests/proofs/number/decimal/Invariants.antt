@@ -1,12 +1,7 @@
 -- `rests::number::decimal` meets its contract: the digits that are left, behind what was read, make the number of the word.
 -- Assumes nothing.
-use borrow.Author.Rules.{rules}
-use mathlib.Core.Path.{◌≡◌, sym, ◌∙◌}
-use Prim.Native.Nat.{◌-◌, ◌^◌, ◌≤◌, ◌<◌}
-use native.Mathlib.Omega.{arith}
-use lib.ListN.{length, drop}
+use Rattle.std.proofs.Common.{◌≡◌, ◌-◌, ◌^◌, ◌≤◌, ◌<◌, length, drop}
 use Rattle.rests.specs.Decimal.{behind, decimal_of}
-use Rattle.rests.proofs.Decimals.{goes_on, stops, ends, no_digits, some_digits}
 use Rattle.rests.proofs.number.decimal.Given as goal
 
 abbrev pub invariant-loop-i : goal.invariant-loop-i
