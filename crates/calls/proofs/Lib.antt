@@ -1,2 +1,4 @@
 pub mod Answered
 pub mod Running
+pub mod Ticking
+pub mod Waking

@@ -117,6 +117,7 @@ fn put_planned(answer: Verdict, active: u64, shares: &[u32; 64], out: &mut [u8])
 }
 
 // Runs at most `most` calls in a row, from a place of the trace on, while the line buffer has room for any call's lines.
+#[tactic(auto, using(submit::proofs::Decisions::place_inside))]
 pub fn run(mut c: Controller, trace: &[u8], place: usize, most: usize, out: &mut [u8]) -> Ran
     requires { Sound c }
     ensures { RanAs (run_from most trace.now (length out.old) place c) result out.old out.new }
