@@ -17,8 +17,7 @@ use Rattle.rules.specs.declared.replay.Pause.TheVariants.{Over, Bytes, Room}
 use Rattle.rules.specs.declared.replay.Printed.TheVariants.{Bytes as BytesOf}
 use Rattle.rules.specs.declared.replay.Fed.{Fed}
 use Rattle.steps.specs.Fed.{Feeds, Prints}
-use Rattle.steps.proofs.chunk.whole.Statement.{statement}
-use Rattle.steps.proofs.chunk.whole.Tie as tie
+use Rattle.steps.proofs.chunk.whole.Goals as goal
 
 module _ (trace o₀ : List ℕ) {o : List ℕ} {s : Replay} {r : Fed} (begins : s ≡ beginning) (feeds : Feeds true trace 0 s r o₀ o) where
   fed-is : r ≡ fed true trace (length o₀) 0 beginning
@@ -40,45 +39,30 @@ module _ (trace o₀ : List ℕ) {o : List ℕ} {s : Replay} {r : Fed} (begins :
       all Room e n f = never (cc)
 
 -- the same, once the chunk was fed
-answers_at : (c : tie.After-feed) (p : Pause) → c.feed.result.pause ≡ p →
-    let start = c.before.before.before.before.before in
-    Prints start.args.trace.now (printed_if p c.feed.result.count) start.args.out.now c.feed.new.1.1.1.1.0
+answers_at : (c : goal.After-feed-fed) (p : Pause) → c.feed-fed.result.pause ≡ p →
+    let start = c in
+    Prints start.args.trace.now (printed_if p c.feed-fed.result.count) start.args.out.now c.feed-fed.new.1.1.1.1.0
 answers_at c p e =
-    let start = c.before.before.before.before.before in
-    answers start.args.trace.now start.args.out.now c.before.before.beginning.ensures.0 c.feed.ensures p e
+    let start = c in
+    answers start.args.trace.now start.args.out.now c.beginning.ensures.0 c.feed-fed.ensures p e
 
-beginning-requires : tie.Need-beginning-requires
-beginning-requires c κs = tt
+pub feed-fed-requires : goal.feed-fed-requires
+feed-fed-requires c = c.beginning.ensures.1
 
-feed-requires : tie.Need-feed-requires
-feed-requires c κs = c.before.beginning.ensures.1
+pub shape_of-out-in-Over : goal.shape_of-out-in-Over
+shape_of-out-in-Over c = c.feed-fed.auto.1.1.1.1.0
 
-enum_told : tie.Need-enum-told
-enum_told c = search rules
+pub returns-in-Over : goal.returns-in-Over
+returns-in-Over c = answers_at c Over c.in-Over.is
 
-enum-told-2 : tie.Need-enum-told-2
-enum-told-2 c = search rules
+pub shape_of-out-in-Bytes : goal.shape_of-out-in-Bytes
+shape_of-out-in-Bytes c = c.feed-fed.auto.1.1.1.1.0
 
-enum-told-3 : tie.Need-enum-told-3
-enum-told-3 c = search rules
+pub returns-in-Bytes : goal.returns-in-Bytes
+returns-in-Bytes c = answers_at c Bytes c.in-Bytes.is
 
-same_length : tie.Need-same-length
-same_length c = c.before.before.before.before.feed.auto.1.1.1.1.0
+pub shape_of-out-in-Room : goal.shape_of-out-in-Room
+shape_of-out-in-Room c = c.feed-fed.auto.1.1.1.1.0
 
-returns : tie.Need-returns
-returns c = answers_at c.before.before.before.before Over c.enum_told.given.1
-
-same-length-2 : tie.Need-same-length-2
-same-length-2 c = c.before.before.before.before.feed.auto.1.1.1.1.0
-
-returns-2 : tie.Need-returns-2
-returns-2 c = answers_at c.before.before.before.before Bytes c.enum-told2.given.1
-
-same-length-3 : tie.Need-same-length-3
-same-length-3 c = c.before.before.before.before.feed.auto.1.1.1.1.0
-
-returns-3 : tie.Need-returns-3
-returns-3 c = answers_at c.before.before.before.before Room c.enum-told3.given.1
-
-pub whole-spec : {M : Type 1} → statement M
-whole-spec = tie.close (tie.spec beginning-requires feed-requires enum_told enum-told-2 enum-told-3 same_length returns same-length-2 returns-2 same-length-3 returns-3)
+pub returns-in-Room : goal.returns-in-Room
+returns-in-Room c = answers_at c Room c.in-Room.is

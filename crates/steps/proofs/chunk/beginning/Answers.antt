@@ -10,8 +10,7 @@ use Rattle.rules.proofs.Laws.Replays.{beginning_plays}
 use Rattle.rules.specs.declared.budget.Controller.{Controller}
 use Rattle.rules.specs.declared.budget.Outcome.{Outcome}
 use Rattle.rules.specs.declared.replay.Phase.TheVariants.{Setup}
-use Rattle.steps.proofs.chunk.beginning.Statement.{statement}
-use Rattle.steps.proofs.chunk.beginning.Tie as tie
+use Rattle.steps.proofs.chunk.beginning.Goals as goal
 
 one-node-refused : (started root_tree slowest 0).state ≡ beginning.state
 unfolding started started_by start_checks tree_checks tree_fault count_in_range
@@ -24,11 +23,5 @@ begins done e =
     ap (λ (c : Controller). within Setup root_tree slowest c) (ap (λ (o : Outcome). o.state) e ∙ one-node-refused) in
     (same, subst Playing (sym same) beginning_plays)
 
-start-requires : tie.Need-start-requires
-start-requires c κs = tt
-
-returns : tie.Need-returns
-returns c = begins c.before.start.result c.before.start.ensures.0
-
-pub beginning-spec : {M : Type 1} → statement M
-beginning-spec = tie.close (tie.spec start-requires returns)
+pub returns : goal.returns
+returns c = begins c.start-refused.result c.start-refused.ensures.0
