@@ -24,4 +24,4 @@ begins done e =
     (same, subst Playing (sym same) beginning_plays)
 
 pub returns : goal.returns
-returns c = begins c.start-refused.result c.start-refused.ensures.0
+returns c = begins c.start-refused.result c.start-refused.ensures.value

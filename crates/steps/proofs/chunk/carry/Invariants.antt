@@ -1,15 +1,9 @@
 -- `steps::chunk::carry` meets its contract. The invariant: i bytes stand at the front, and what is read next is as it came.
 -- Assumes nothing.
-use mathlib.Core.Path.{◌≡◌, refl, sym, ap, ◌∙◌}
-use mathlib.Core.List.{List, [], ◌∷◌, ◌++◌}
-use Prim.Native.Nat.{ℕ, ◌+◌, ◌-◌, ◌≤◌, ◌<◌}
-use native.Mathlib.Numerals.{add-one}
-use native.Mathlib.Omega.{arith}
-use lib.ListN.{length, take, drop, set, get_or, length-drop}
-use lib.Seq.{take-suc, get_or-drop, get_or-append-add}
-use borrow.Author.Rules.{rules}
+use mathlib.Core.List.{List}
+use Prim.Native.Nat.{ℕ, ◌-◌, ◌≤◌}
+use lib.ListN.{take, drop}
 use Rattle.rules.specs.Buffers.{Stands}
-use Rattle.rules.proofs.Laws.Buffers.{stands_none, stands_kept, stands_byte}
 use Rattle.steps.proofs.chunk.carry.Given as goal
 
 pub record Inv (o₀ o : List ℕ) (from count i : ℕ) : Type 0 where

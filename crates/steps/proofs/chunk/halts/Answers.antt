@@ -4,7 +4,6 @@ use mathlib.Core.Path.{◌≡◌, sym, ◌∙◌}
 use mathlib.Core.Bool.{Bool, true, false}
 use Prim.Native.Nat.{ℕ}
 use lib.Dec.{ltb}
-use borrow.Author.Rules.{rules}
 use Rattle.rules.specs.Numbers.{line_room}
 use Rattle.rules.specs.Replay.{is_stopped}
 use Rattle.rules.specs.Chunks.{is_end, wants_bytes, halts}
@@ -34,28 +33,19 @@ module _ (last : Bool) (read : Read) (room : ℕ) {phase : Phase} (s : Replay) (
 
 pub returns-then-is_stopped : goal.returns-then-is_stopped
 returns-then-is_stopped c s same =
-    let start = c in
-    stopped start.args.last start.args.read start.args.room s same (sym c.is_stopped.ensures ∙ c.if-is_stopped.true)
+    stopped c.args.last c.args.read c.args.room s same (sym c.is_stopped.ensures ∙ c.if-is_stopped.true)
 
 pub returns-then-wants_bytes : goal.returns-then-wants_bytes
 returns-then-wants_bytes c s same =
-    let on = c in
-    let start = on in
-    wants start.args.last start.args.read start.args.room s same (sym on.is_stopped.ensures ∙ on.if-is_stopped.false)
+    wants c.args.last c.args.read c.args.room s same (sym c.is_stopped.ensures ∙ c.if-is_stopped.false)
     (sym c.wants_bytes.ensures ∙ c.if-wants_bytes.true)
 
 pub returns-then-is_end : goal.returns-then-is_end
 returns-then-is_end c s same =
-    let here = c in
-    let on = here in
-    let start = on in
-    ends start.args.last start.args.read start.args.room s same (sym on.is_stopped.ensures ∙ on.if-is_stopped.false)
-    (sym here.wants_bytes.ensures ∙ here.if-wants_bytes.false) (sym c.is_end.ensures ∙ c.if-is_end.true)
+    ends c.args.last c.args.read c.args.room s same (sym c.is_stopped.ensures ∙ c.if-is_stopped.false)
+    (sym c.wants_bytes.ensures ∙ c.if-wants_bytes.false) (sym c.is_end.ensures ∙ c.if-is_end.true)
 
 pub returns : goal.returns
 returns c s same =
-    let here = c in
-    let on = here in
-    let start = on in
-    goes start.args.last start.args.read start.args.room s same (sym on.is_stopped.ensures ∙ on.if-is_stopped.false)
-    (sym here.wants_bytes.ensures ∙ here.if-wants_bytes.false) (sym c.is_end.ensures ∙ c.if-is_end.false)
+    goes c.args.last c.args.read c.args.room s same (sym c.is_stopped.ensures ∙ c.if-is_stopped.false)
+    (sym c.wants_bytes.ensures ∙ c.if-wants_bytes.false) (sym c.is_end.ensures ∙ c.if-is_end.false)

@@ -1,7 +1,6 @@
 -- `steps::chunk::is_end` meets its contract: each arm answers of its own variant.
 -- Assumes nothing.
 use mathlib.Core.Path.{sym, ap}
-use borrow.Author.Rules.{rules}
 use Rattle.rules.specs.Chunks.{is_end}
 use Rattle.steps.proofs.chunk.is_end.Goals as goal
 

@@ -2,7 +2,6 @@
 -- Assumes nothing.
 use mathlib.Core.Path.{◌≡◌, sym, ◌∙◌}
 use mathlib.Core.Bool.{Bool, true, false}
-use borrow.Author.Rules.{rules}
 use Rattle.rules.specs.Replay.{is_stopped}
 use Rattle.rules.specs.Chunks.{is_end, wants_bytes, pause_of}
 use Rattle.rules.specs.declared.trace.Read.{Read}
@@ -32,28 +31,19 @@ module _ (last : Bool) (read : Read) {phase : Phase} (s : Replay) (same : s.phas
 
 pub returns-then-is_stopped : goal.returns-then-is_stopped
 returns-then-is_stopped c s same =
-    let start = c in
-    stopped start.args.last start.args.read s same (sym c.is_stopped.ensures ∙ c.if-is_stopped.true)
+    stopped c.args.last c.args.read s same (sym c.is_stopped.ensures ∙ c.if-is_stopped.true)
 
 pub returns-then-wants_bytes : goal.returns-then-wants_bytes
 returns-then-wants_bytes c s same =
-    let on = c in
-    let start = on in
-    wants start.args.last start.args.read s same (sym on.is_stopped.ensures ∙ on.if-is_stopped.false)
+    wants c.args.last c.args.read s same (sym c.is_stopped.ensures ∙ c.if-is_stopped.false)
     (sym c.wants_bytes.ensures ∙ c.if-wants_bytes.true)
 
 pub returns-then-is_end : goal.returns-then-is_end
 returns-then-is_end c s same =
-    let here = c in
-    let on = here in
-    let start = on in
-    ends start.args.last start.args.read s same (sym on.is_stopped.ensures ∙ on.if-is_stopped.false)
-    (sym here.wants_bytes.ensures ∙ here.if-wants_bytes.false) (sym c.is_end.ensures ∙ c.if-is_end.true)
+    ends c.args.last c.args.read s same (sym c.is_stopped.ensures ∙ c.if-is_stopped.false)
+    (sym c.wants_bytes.ensures ∙ c.if-wants_bytes.false) (sym c.is_end.ensures ∙ c.if-is_end.true)
 
 pub returns : goal.returns
 returns c s same =
-    let here = c in
-    let on = here in
-    let start = on in
-    full start.args.last start.args.read s same (sym on.is_stopped.ensures ∙ on.if-is_stopped.false)
-    (sym here.wants_bytes.ensures ∙ here.if-wants_bytes.false) (sym c.is_end.ensures ∙ c.if-is_end.false)
+    full c.args.last c.args.read s same (sym c.is_stopped.ensures ∙ c.if-is_stopped.false)
+    (sym c.wants_bytes.ensures ∙ c.if-wants_bytes.false) (sym c.is_end.ensures ∙ c.if-is_end.false)

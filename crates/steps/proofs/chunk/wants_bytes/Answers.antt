@@ -2,7 +2,6 @@
 -- Assumes nothing.
 use mathlib.Core.Path.{ap}
 use mathlib.Core.Bool.{Bool, not, ◌&&◌}
-use borrow.Author.Rules.{rules}
 use Rattle.rules.specs.Chunks.{wants_bytes}
 use Rattle.steps.proofs.chunk.wants_bytes.Goals as goal
 

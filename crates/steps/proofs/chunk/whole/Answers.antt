@@ -5,7 +5,6 @@ use mathlib.Core.Bool.{true}
 use mathlib.Core.List.{List}
 use Prim.Native.Nat.{ℕ}
 use lib.ListN.{length}
-use borrow.Author.Rules.{rules}
 use Rattle.rules.specs.Replay.{beginning, replay}
 use Rattle.rules.specs.Chunks.{fed, whole_part, printed_if, whole}
 use Rattle.rules.specs.Buffers.{Written}
@@ -38,31 +37,23 @@ module _ (trace o₀ : List ℕ) {o : List ℕ} {s : Replay} {r : Fed} (begins :
       all Bytes e n f = never (cc)
       all Room e n f = never (cc)
 
--- the same, once the chunk was fed
-answers_at : (c : goal.After-feed-fed) (p : Pause) → c.feed-fed.result.pause ≡ p →
-    let start = c in
-    Prints start.args.trace.now (printed_if p c.feed-fed.result.count) start.args.out.now c.feed-fed.new.1.1.1.1.0
-answers_at c p e =
-    let start = c in
-    answers start.args.trace.now start.args.out.now c.beginning.ensures.0 c.feed-fed.ensures p e
-
 pub feed-fed-requires : goal.feed-fed-requires
 feed-fed-requires c = c.beginning.ensures.1
 
 pub shape_of-out-in-Over : goal.shape_of-out-in-Over
-shape_of-out-in-Over c = c.feed-fed.auto.1.1.1.1.0
+shape_of-out-in-Over c = c.feed-fed.auto.out
 
 pub returns-in-Over : goal.returns-in-Over
-returns-in-Over c = answers_at c Over c.in-Over.is
+returns-in-Over c = answers c.args.trace.now c.args.out.now c.beginning.ensures.0 c.feed-fed.ensures Over c.in-Over.is
 
 pub shape_of-out-in-Bytes : goal.shape_of-out-in-Bytes
-shape_of-out-in-Bytes c = c.feed-fed.auto.1.1.1.1.0
+shape_of-out-in-Bytes c = c.feed-fed.auto.out
 
 pub returns-in-Bytes : goal.returns-in-Bytes
-returns-in-Bytes c = answers_at c Bytes c.in-Bytes.is
+returns-in-Bytes c = answers c.args.trace.now c.args.out.now c.beginning.ensures.0 c.feed-fed.ensures Bytes c.in-Bytes.is
 
 pub shape_of-out-in-Room : goal.shape_of-out-in-Room
-shape_of-out-in-Room c = c.feed-fed.auto.1.1.1.1.0
+shape_of-out-in-Room c = c.feed-fed.auto.out
 
 pub returns-in-Room : goal.returns-in-Room
-returns-in-Room c = answers_at c Room c.in-Room.is
+returns-in-Room c = answers c.args.trace.now c.args.out.now c.beginning.ensures.0 c.feed-fed.ensures Room c.in-Room.is

@@ -3,7 +3,6 @@
 use mathlib.Core.Path.{◌≡◌}
 use mathlib.Core.List.{List}
 use Prim.Native.Nat.{ℕ}
-use borrow.Author.Rules.{rules}
 use Rattle.rules.specs.Replay.{record_step}
 use Rattle.rules.specs.declared.trace.Record.{Record}
 use Rattle.rules.specs.declared.replay.Replay.{Replay}
@@ -17,27 +16,15 @@ carry-out-as s o₀ e d = rw e d
 
 pub returns-in-Node : goal.returns-in-Node
 returns-in-Node c =
-    let called = c in
-    let known = called in
-    let start = known in
-    carry-out-as start.args.s start.args.out.now known.in-Node.is called.node.ensures
+    carry-out-as c.args.s c.args.out.now c.in-Node.is c.node.ensures
 
 pub returns-in-Model : goal.returns-in-Model
 returns-in-Model c =
-    let called = c in
-    let known = called in
-    let start = known in
-    carry-out-as start.args.s start.args.out.now known.in-Model.is called.model.ensures
+    carry-out-as c.args.s c.args.out.now c.in-Model.is c.model.ensures
 
 pub returns-in-Start : goal.returns-in-Start
 returns-in-Start c =
-    let called = c in
-    let known = called in
-    let start = known in
-    carry-out-as start.args.s start.args.out.now known.in-Start.is called.start.ensures
+    carry-out-as c.args.s c.args.out.now c.in-Start.is c.start.ensures
 
 pub returns-in_default : goal.returns-in_default
-returns-in_default c =
-    let arm = c in
-    let start = arm in
-    absurd (no_call start.args.r start.requires.2 arm.in_default.in_default-own.keys4)
+returns-in_default c = absurd (no_call c.args.r c.requires.2 c.in_default.not-Node c.in_default.not-Model c.in_default.not-Start)

@@ -1,6 +1,5 @@
 -- `record::in_phase` meets its contract, phase by phase, on the record's kind.
 -- Assumes nothing.
-use borrow.Author.Rules.{rules}
 use Rattle.rules.specs.Replay.{in_phase}
 use Rattle.steps.proofs.record.in_phase.Goals as goal
 

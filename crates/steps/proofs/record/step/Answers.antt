@@ -13,37 +13,25 @@ returns-then-out-lt-LINE_ROOM c =
 
 pub returns-then-is_stopped : goal.returns-then-is_stopped
 returns-then-is_stopped c =
-    let tested = c in
-    let a = tested.args in
-    steps_no_more (read_at a.trace.now a.at) a.s a.out.now tested.if-out-lt-LINE_ROOM.false (sym tested.is_stopped.ensures ∙ c.if-is_stopped.true)
+    let a = c.args in
+    steps_no_more (read_at a.trace.now a.at) a.s a.out.now c.if-out-lt-LINE_ROOM.false (sym c.is_stopped.ensures ∙ c.if-is_stopped.true)
 
 pub run-ran-requires : goal.run-ran-requires
 run-ran-requires c = c.requires.state
 
 pub returns-then-runs : goal.returns-then-runs
 returns-then-runs c =
-    let ran = c in
-    let called = ran in
-    let going = called in
-    let tested = going in
-    let a = tested.args in
-    steps_on (read_at a.trace.now a.at) a.s a.out.now tested.if-out-lt-LINE_ROOM.false (sym tested.is_stopped.ensures ∙ going.if-is_stopped.false)
-    (one_call a.trace.now a.at a.s a.out.now called.read_from-read.ensures.0 called.runs.ensures ran.if-runs.true refl
-    tested.if-out-lt-LINE_ROOM.false ran.run-ran.ensures)
+    let a = c.args in
+    steps_on (read_at a.trace.now a.at) a.s a.out.now c.if-out-lt-LINE_ROOM.false (sym c.is_stopped.ensures ∙ c.if-is_stopped.false)
+    (one_call a.trace.now a.at a.s a.out.now c.read_from-read.ensures.value c.runs.ensures c.if-runs.true refl
+    c.if-out-lt-LINE_ROOM.false c.run-ran.ensures)
 
 pub follow-after-requires : goal.follow-after-requires
 follow-after-requires c =
-    let called = c in
-    let tested = called in
-    let start = tested in
-    (start.requires, search rules, no_run start.args.s _ refl called.runs.ensures c.if-runs.false)
+    (c.requires, search rules, no_run c.args.s _ refl c.runs.ensures c.if-runs.false)
 
 pub returns : goal.returns
 returns c =
-    let gone = c in
-    let called = gone in
-    let going = called in
-    let tested = going in
-    let a = tested.args in
-    steps_on (read_at a.trace.now a.at) a.s a.out.now tested.if-out-lt-LINE_ROOM.false (sym tested.is_stopped.ensures ∙ going.if-is_stopped.false)
-    (same_read a.s a.out.now called.read_from-read.ensures.0 gone.follow-after.ensures)
+    let a = c.args in
+    steps_on (read_at a.trace.now a.at) a.s a.out.now c.if-out-lt-LINE_ROOM.false (sym c.is_stopped.ensures ∙ c.if-is_stopped.false)
+    (same_read a.s a.out.now c.read_from-read.ensures.value c.follow-after.ensures)
