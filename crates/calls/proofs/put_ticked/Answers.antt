@@ -1,6 +1,5 @@
 -- `put_ticked` meets its contract: the lines of the released ids, or the refusal's.
 -- Assumes nothing.
-use borrow.Author.Rules.{rules}
 use native.Mathlib.Omega.{arith}
 use Rattle.calls.proofs.Answered.{room_for, released_put, unticked_put}
 use Rattle.calls.proofs.put_ticked.Goals as goal
