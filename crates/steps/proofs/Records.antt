@@ -2,14 +2,11 @@
 -- Assumes nothing.
 use mathlib.Core.Path.{◌≡◌, refl, sym, ap, ◌∙◌}
 use mathlib.Core.Bool.{Bool, true, false, ◌&&◌}
-use mathlib.Core.List.{List, [], ◌∷◌, append-nil}
-use mathlib.Core.Logic.{inl, inr}
-use Prim.Native.Nat.{ℕ, suc, ◌+◌, ◌≤◌, ◌<◌}
+use mathlib.Core.List.{List, append-nil}
+use Prim.Native.Nat.{ℕ, ◌+◌, ◌≤◌, ◌<◌}
 use native.Mathlib.Omega.{arith}
 use lib.Dec.{ltb}
 use lib.ListN.{length}
-use types.Run.{OneOf}
-use denote.Enum.Declared.{tag_of}
 use borrow.Author.Tests.{lt-leb, lt-ltb, le-ltb}
 use Rattle.rules.specs.Numbers.{nodes_most, line_room}
 use Rattle.rules.specs.Tree.{newest_fault}
@@ -34,7 +31,6 @@ use Rattle.rules.specs.declared.refusals.Verdict.TheVariants.{Accepted, Refused}
 use Rattle.rules.specs.declared.refusals.Pricing.{Pricing}
 use Rattle.rules.specs.declared.refusals.Pricing.TheVariants.{Priced as PricedAs, Refused as Unpriced}
 use Rattle.rules.specs.declared.trace.Record.{Record}
-use Rattle.rules.specs.contracts.trace.Record.{the_type}
 use Rattle.rules.specs.declared.trace.Record.TheVariants.{Node, Model as ModelOf, Start, Bio as BioOf, Tick, Plan, Vrate, Weight}
 use Rattle.rules.specs.declared.trace.Read.{Read}
 use Rattle.rules.specs.declared.trace.Read.TheVariants.{Found, End, Refused as Unread}
@@ -151,25 +147,15 @@ setup_only {read} {r} {next} p f e t h = go r (rw f at h) (sym e ∙ t)
     go (Weight n w) h e = absurd (never_before_start 8 refl refl p e h)
 
 -- the arm for the rest has the calls' variants, from the fourth on
-kind_is : (r : Record) → kind_of r ≡ suc (tag_of the_type r)
-kind_is (Node p w) = refl
-kind_is (ModelOf q) = refl
-kind_is (Start time) = refl
-kind_is (BioOf b) = refl
-kind_is (Tick time) = refl
-kind_is Plan = refl
-kind_is (Vrate v) = refl
-kind_is (Weight n w) = refl
-
-late : {k : ℕ} → OneOf (3 ∷ 4 ∷ 5 ∷ 6 ∷ 7 ∷ []) k → 3 ≤ k
-late (inl e) = omega arith
-late (inr (inl e)) = omega arith
-late (inr (inr (inl e))) = omega arith
-late (inr (inr (inr (inl e)))) = omega arith
-late (inr (inr (inr (inr e)))) = omega arith
-
-pub no_call : (r : Record) → kind_of r < 4 → OneOf (3 ∷ 4 ∷ 5 ∷ 6 ∷ 7 ∷ []) (tag_of the_type r) → ⊥
-no_call r early rest = omega (arith, kind_is r, late rest)
+pub no_call : (r : Record) → kind_of r < 4 → ((p w : ℕ) → r ≡ Node p w → ⊥) → ((q : Rates) → r ≡ ModelOf q → ⊥) → ((time : ℕ) → r ≡ Start time → ⊥) → ⊥
+no_call (Node p w) early n m s = n p w refl
+no_call (ModelOf q) early n m s = m q refl
+no_call (Start time) early n m s = s time refl
+no_call (BioOf b) early n m s = omega arith
+no_call (Tick time) early n m s = omega arith
+no_call Plan early n m s = omega arith
+no_call (Vrate v) early n m s = omega arith
+no_call (Weight n w) early o m s = omega arith
 
 -- ---- a call in its phase is run, alone
 pub one_call : (trace : List ℕ) (at : ℕ) (s : Replay) (o₀ : List ℕ) {read : Read} {phase : Phase} {b : Bool} {r : Ran} {o : List ℕ}

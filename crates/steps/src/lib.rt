@@ -2,6 +2,7 @@
 // then the same over a chunk of a trace, and over a whole one. Phases and the order of refusals are decided here; what a
 // call answers is decided in its own crate, and so is what a line says.
 #![tactic(auto)]
+
 pub mod chunk;
 pub mod record;
 mod setup;
