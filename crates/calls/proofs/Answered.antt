@@ -2,21 +2,16 @@
 -- Assumes nothing.
 use mathlib.Core.Path.{◌≡◌, refl, sym, ap, ◌∙◌}
 use mathlib.Core.List.{List}
-use Prim.Native.Nat.{ℕ, ◌*◌, ◌≤◌}
-use native.Mathlib.Omega.{arith}
+use Prim.Native.Nat.{ℕ}
 use lib.ListN.{length, take, drop}
 use lib.Seq.{take_at}
-use Rattle.rules.specs.Numbers.{line_room}
 use Rattle.rules.specs.Refusals.{first_of, tick_checks}
 use Rattle.rules.specs.Tick.{growth, releases, lent_after}
 use Rattle.rules.specs.Replay.{refusal_line, answer_line, release_lines, tick_lines, plan_lines, verdict_lines, all_room, share_lines_of}
 use Rattle.rules.specs.Chunks.{call_of, calling}
 use Rattle.rules.specs.Entries.{submitted, ticked, ticked_by, lent_by, lent_of, planned, set_by}
-use Rattle.rules.specs.Invariant.{Sound}
 use Rattle.rules.specs.Buffers.{Written}
 use Rattle.rules.proofs.Laws.Lines.{share_lines_lem}
-use Rattle.rules.proofs.Laws.Ticks.{tick_releases_fit}
-use Rattle.rules.proofs.Laws.Bools.{never}
 use Rattle.rules.specs.declared.cost.Bio.{Bio}
 use Rattle.rules.specs.declared.budget.Controller.{Controller}
 use Rattle.rules.specs.declared.budget.Submitted.{Submitted}
@@ -35,27 +30,7 @@ use Rattle.rules.specs.declared.replay.Call.{Call}
 use Rattle.rules.specs.declared.replay.Call.TheVariants.{Bio as CallBio, Tick as CallTick, Plan as CallPlan, Set as CallSet}
 use Rattle.rules.specs.declared.replay.Setting.{Setting}
 use Rattle.rules.specs.declared.replay.Setting.TheVariants.{Vrate as SetVrate, Weight as SetWeight}
-use Rattle.calls.specs.Calls.{CanPrint, plan_lines_of}
-
--- ---- an accepted tick releases no more than the lent buffer has places
-released_fit : {c : Controller} → Sound c → (time : ℕ) (lent : List ℕ) {done : Ticked} {n : ℕ} → done ≡ ticked time lent c
-    → done.answer ≡ Released n → n ≤ length lent
-unfolding ticked ticked_by
-released_fit {c} sound time lent {done} {n} e f = go (first_of (tick_checks time (length lent) c)) refl (sym (ap (λ (t : Ticked). t.answer) e) ∙ f)
-  where
-    go : (v : Verdict) → first_of (tick_checks time (length lent) c) ≡ v → (ticked_by v time c).answer ≡ Released n → n ≤ length lent
-    go Accepted p q =
-        let same : length (releases (growth c.clock time) c) ≡ n = cc in
-        omega (arith, tick_releases_fit sound time (length lent) p)
-    go (Refused x) p q = never (cc)
-
-pub can_print : {c : Controller} → Sound c → (time : ℕ) (lent : List ℕ) {done : Ticked} {places : ℕ} → done ≡ ticked time lent c → length lent ≡ 504
-    → places ≡ 504 → CanPrint done.answer places
-can_print {c} sound time lent {done} {places} e k l = go done.answer refl
-  where
-    go : (a : Count) → done.answer ≡ a → CanPrint a places
-    go (Released n) f = let fit : n ≤ length lent = released_fit sound time lent e f in (omega arith, omega arith)
-    go (Unticked x) f = tt
+use Rattle.calls.specs.Calls.{plan_lines_of}
 
 -- ---- what is read asks for a call
 module _ {read : Read} {r : Record} {next : ℕ} (e : read ≡ Found r next) where
@@ -76,9 +51,6 @@ module _ {read : Read} {r : Record} {next : ℕ} (e : read ≡ Found r next) whe
   asks_weight n w f = rw (e, f)
 
 -- ---- the lines of each answer
-pub room_for : {answer : Count} {n places : ℕ} → answer ≡ Released n → CanPrint answer places → (n ≤ places) × (13 * n ≤ line_room)
-room_for e h = rw e at h
-
 module _ {r : ℕ} (o₀ o : List ℕ) where
   pub released_put : {answer : Count} {n : ℕ} (lent : List ℕ) → answer ≡ Released n → Written (release_lines (take n lent)) r o₀ o
       → Written (tick_lines answer lent) r o₀ o

@@ -16,7 +16,7 @@ use Rattle.rules.specs.Chunks.{call_of, is_call, calling, still, called_before, 
 use Rattle.rules.specs.Invariant.{Sound}
 use Rattle.rules.specs.Buffers.{Written, Stands, rest_of, put_back}
 use Rattle.rules.proofs.Laws.Bools.{and_left, and_right}
-use Rattle.rules.proofs.Laws.Buffers.{stands_none, stands_kept, stands_rest, stands_fits, stands_more}
+use Rattle.rules.proofs.Laws.Buffers.{stands_none, stands_kept, stands_fits, stands_more}
 use Rattle.rules.proofs.Laws.Runs.{calling_keeps, run_goes}
 use Rattle.rules.specs.declared.cost.Bio.{Bio}
 use Rattle.rules.specs.declared.budget.Controller.{Controller}
@@ -102,9 +102,6 @@ begun trace o₀ most place c sound =
 
 module _ {trace o₀ : List ℕ} {most place : ℕ} {c₀ : Controller} {o ids : List ℕ} {c : Controller} {at count left : ℕ}
     (v : Running trace o₀ most place c₀ o ids c at count left) where
-  pub asks : (k : ℕ) → k ≤ line_room → line_room ≤ length o - count → k ≤ length (rest_of o count)
-  asks k l h = rw (stands_rest v.front) (omega (arith, stands_kept v.front))
-
   -- what the run is, if it ends here
   abbrev RanHere : Type 0
   RanHere = RanAs (run_from most trace (length o₀) place c₀) (record { count = count; place = at; state = c }) o₀ o

@@ -2,6 +2,7 @@
 // answer; a refused one changes nothing, and the replay goes on. The state goes from call to call in one function,
 // since each function that it is handed through copies it.
 #![tactic(auto)]
+
 ghost use Rattle.std.specs.Prelude.{◌≡◌, ◌≤◌, length};
 ghost use Rattle.rules.specs.Numbers.{line_room, shares_room};
 ghost use Rattle.rules.specs.Replay.{tick_lines, next_place};

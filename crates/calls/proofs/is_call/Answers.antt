@@ -1,7 +1,6 @@
 -- `is_call` meets its contract: every call is one but the one that asks nothing.
 -- Assumes nothing.
 use mathlib.Core.Path.{sym, ap}
-use borrow.Author.Rules.{rules}
 use Rattle.rules.specs.Chunks.{is_call}
 use Rattle.calls.proofs.is_call.Goals as goal
 

@@ -1,6 +1,5 @@
 -- `put_planned` meets its contract: the lines of the active leaves, or the refusal's.
 -- Assumes nothing.
-use borrow.Author.Rules.{rules}
 use Rattle.calls.proofs.Answered.{shares_put, unplanned_put}
 use Rattle.calls.proofs.put_planned.Goals as goal
 

@@ -7,7 +7,6 @@ use Rattle.rules.specs.Budget.{queue_at, put_leaf}
 use Rattle.rules.specs.Tick.{advanced}
 use Rattle.rules.specs.Entries.{submitted, ticked, lent_of, planned, set_by}
 use Rattle.rules.specs.Invariant.{Sound}
-use Rattle.rules.proofs.Laws.Buffers.{stands_kept, stands_left}
 use Rattle.rules.specs.declared.budget.Controller.{Controller}
 use Rattle.rules.specs.declared.budget.Submitted.{Submitted}
 use Rattle.rules.specs.declared.budget.Ticked.{Ticked}
@@ -163,7 +162,7 @@ loop-left-preserved-in-Tick c =
     let time = c.in-Tick.time in
     let lent = c.loop-left.ids in
     let is_ticked : (◌≡◌ {A = Ticked} (record { answer = c.match-verdict.answer; state = c.match-verdict.c }) (ticked time lent d))
-      × (c.match-verdict.ids ≡ lent_of time lent d) = elim c.match-verdict.branch [
+    × (c.match-verdict.ids ≡ lent_of time lent d) = elim c.match-verdict.branch [
       | in-Accepted+else-loop-turns-test w ↦
           rw (w.c-is, w.ids-is, w.answer-is)
           (accepts time lent d (accepted_there v.sound time lent v.places c.verdict-verdict.ensures w.in-Accepted.is)

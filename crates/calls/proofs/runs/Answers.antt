@@ -1,6 +1,5 @@
 -- `runs` meets its contract: the phase runs, and what is read is a call.
 -- Assumes nothing.
-use borrow.Author.Rules.{rules}
 use Rattle.rules.specs.Chunks.{runs}
 use Rattle.calls.proofs.runs.Goals as goal
 
