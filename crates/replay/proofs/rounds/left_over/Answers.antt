@@ -1,6 +1,6 @@
 -- `replay::rounds::left_over` meets its contract, by what `carry` ensures.
 -- Assumes nothing.
-use Rattle.std.proofs.Common.{ℕ, take, refl, ap, ◌∙◌, arith, rules}
+use Rattle.std.proofs.Common.{ℕ, take, refl, ap, ◌∙◌, arith}
 use Rattle.replay.proofs.Round.{left_in_front}
 use Rattle.replay.proofs.rounds.left_over.Goals as goal
 
@@ -8,7 +8,7 @@ pub returns : goal.returns
 returns c =
     let k = c.carry.ensures in
     let p = c.requires in
-    let cut = ap (λ (n : ℕ). take n c.carry.new.0) k.0 in
+    let cut = ap (λ (n : ℕ). take n c.carry.new.buf) k.0 in
     record {
       same = refl;
       stands = (p.0, omega (arith, k.0));

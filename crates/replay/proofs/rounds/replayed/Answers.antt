@@ -1,6 +1,6 @@
 -- `replay::rounds::replayed` meets its contract, by what `feed` ensures of the bytes that wait.
 -- Assumes nothing.
-use Rattle.std.proofs.Common.{sym, zero-le, le_trans, le_of_eq, arith, length-take-le, rules}
+use Rattle.std.proofs.Common.{sym, zero-le, le_trans, le_of_eq, arith, length-take-le}
 use Rattle.replay.proofs.rounds.replayed.Goals as goal
 
 pub slice_bounds-feed-end : goal.slice_bounds-feed-end
