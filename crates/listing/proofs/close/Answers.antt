@@ -15,7 +15,6 @@ use Rattle.comparison.specs.declared.Longer.{Longer}
 use Rattle.comparison.specs.declared.Step.{Step}
 use Rattle.text.specs.Lines.{ends_line, likeness_line, short_room}
 use Rattle.listing.specs.Listing.{rest_line_by, closing_lines, closing_by, closing_room}
-use borrow.Author.Rules.{rules}
 use Rattle.listing.proofs.close.Goals as goal
 
 -- three short lines, one behind the other

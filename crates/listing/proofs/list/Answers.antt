@@ -1,12 +1,8 @@
 -- `listing::list` meets its contract: each turn passes one pair, and its line stands behind those before it.
 -- Assumes nothing.
-use Prim.Native.Nat.{◌-◌}
 use native.Mathlib.Omega.{arith}
-use lib.ListN.{length}
-use borrow.Author.Rules.{rules}
-use borrow.Author.Tests.{not-true, not-false}
 use Rattle.rules.proofs.Laws.Buffers.{stands_left, stands_kept}
-use Rattle.listing.proofs.Going.{Going, begun, no_pair, no_room, room_left, counts, nearer, within, goes}
+use Rattle.listing.proofs.Going.{begun, no_pair, no_room, room_left, counts, nearer, within, goes}
 use Rattle.listing.proofs.list.Goals as goal
 
 pub loop-b-init : goal.loop-b-init
@@ -39,7 +35,7 @@ put_step-count-requires c =
 
 pub overflow_add-count : goal.overflow_add-count
 overflow_add-count c =
-    let fits = within c.loop-b.invariant c.step-s.ensures c.is_pair.ensures c.if-not-is_pair.false c.if-out-count-lt-ROOM.false c.put_step-count.auto.1.1.1.1.1.0 c.put_step-count.ensures.0 in
+    let fits = within c.loop-b.invariant c.step-s.ensures c.is_pair.ensures c.if-not-is_pair.false c.if-out-count-lt-ROOM.false c.put_step-count.auto.out c.put_step-count.ensures.0 in
     omega (arith, fits)
 
 pub advance-r-requires : goal.advance-r-requires
@@ -50,4 +46,4 @@ loop-b-smaller c = nearer c.loop-b.invariant c.step-s.ensures c.is_pair.ensures 
 
 pub loop-b-preserved : goal.loop-b-preserved
 loop-b-preserved c =
-    goes c.loop-b.invariant c.step-s.ensures c.is_pair.ensures c.if-not-is_pair.false c.if-out-count-lt-ROOM.false c.put_step-count.auto.1.1.1.1.1.0 c.put_step-count.ensures.0 _ c.advance-r.ensures
+    goes c.loop-b.invariant c.step-s.ensures c.is_pair.ensures c.if-not-is_pair.false c.if-out-count-lt-ROOM.false c.put_step-count.auto.out c.put_step-count.ensures.0 _ c.advance-r.ensures

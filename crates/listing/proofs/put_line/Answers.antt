@@ -10,7 +10,6 @@ use Rattle.text.specs.Lines.{differs_line, differs_room}
 use Rattle.listing.specs.Listing.{differs_at}
 use Rattle.listing.specs.declared.Begins.{Begins}
 use Rattle.listing.specs.declared.Reach.{Reach}
-use borrow.Author.Rules.{rules}
 use Rattle.listing.proofs.put_line.Goals as goal
 
 written_at : (b : Begins) (here there : List ℕ) (r : Reach) (x y : Record) (n : ℕ) (o₀ o : List ℕ) → x ≡ record_at here r.first → y ≡ record_at there r.second

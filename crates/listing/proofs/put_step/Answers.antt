@@ -14,7 +14,6 @@ use Rattle.text.specs.Lines.{differs_room}
 use Rattle.comparison.specs.declared.Step.{Step}
 use Rattle.comparison.specs.declared.Step.TheVariants.{Differs}
 use Rattle.listing.specs.Listing.{WholeHere, line_by}
-use borrow.Author.Rules.{rules}
 use Rattle.listing.proofs.put_step.Goals as goal
 
 -- the two records of a pair that differs
