@@ -6,8 +6,7 @@ use Rattle.comparison.specs.declared.Extent.{Extent}
 use Rattle.compare.specs.Parts.{Inside, part, wants_bytes, passed_to, Scans}
 use Rattle.compare.specs.declared.side.Held.{Held}
 use Rattle.compare.proofs.Stand.{all_held}
-use Rattle.compare.proofs.errors.scanned.Statement.{statement}
-use Rattle.compare.proofs.errors.scanned.Tie as tie
+use Rattle.compare.proofs.errors.scanned.Goals as goal
 
 scans : (h : Held) (buf : List ℕ) (at : ℕ) (held : Held) (found : Extent) (wants : Bool) → Inside h (length buf)
     → at ≡ records_end (part h buf) h.place → at ≤ length (part h buf) → held ≡ passed_to at h → found ≡ extent_at (part h buf) at
@@ -20,32 +19,12 @@ scans h buf at held found wants i e most to f w =
       over = ap not w;
     }
 
-slice-aggregate-part : tie.Need-slice-aggregate-part
-slice-aggregate-part c = sym (all_held _ c.before.before.requires)
+pub slice_bounds-part-end : goal.slice_bounds-part-end
+slice_bounds-part-end c = sym (all_held _ c.requires)
 
-records-end-requires : tie.Need-records-end-requires
-records-end-requires c κs = let all = all_held c.before.before.args.buf.now c.before.before.requires in omega (arith, all, c.before.before.requires.passed)
+pub records_end-at-requires : goal.records_end-at-requires
+records_end-at-requires c = let all = all_held c.args.buf.now c.requires in omega (arith, all, c.requires.passed)
 
-extent-requires : tie.Need-extent-requires
-extent-requires c κs = search rules
-
-passed-requires : tie.Need-passed-requires
-passed-requires c κs = search rules
-
-wants-bytes-requires : tie.Need-wants-bytes-requires
-wants-bytes-requires c κs = search rules
-
-returns : tie.Need-returns
+pub returns : goal.returns
 returns c =
-    scans _ _ _ _ _ _ c.before.before.before.before.before.before.requires c.before.before.before.records-end.ensures.0 c.before.before.before.records-end.ensures.1 c.before.passed.ensures c.before.before.extent.ensures c.wants-bytes.ensures
-
-pub scanned-spec : {M : Type 1} → statement M
-scanned-spec =
-    tie.close
-    (tie.spec
-    slice-aggregate-part
-    records-end-requires
-    extent-requires
-    passed-requires
-    wants-bytes-requires
-    returns)
+    scans _ _ _ _ _ _ c.requires c.records_end-at.ensures.0 c.records_end-at.ensures.1 c.passed.ensures c.extent-found.ensures c.wants_bytes.ensures
