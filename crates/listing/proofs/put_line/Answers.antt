@@ -20,6 +20,5 @@ written_at b here there r x y n o₀ o e f w = rw (← e, ← f) w
 
 pub returns : goal.returns
 returns c =
-    let start = c in
-    written_at start.args.b start.args.here.now start.args.there.now start.args.r _ _ _ _ _
+    written_at c.args.b c.args.here.now c.args.there.now c.args.r _ _ _ _ _
     c.record_in.ensures c.record_in-2.ensures c.put_differs.ensures
