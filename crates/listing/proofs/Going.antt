@@ -2,15 +2,15 @@
 -- Assumes nothing.
 use mathlib.Core.Path.{◌≡◌, sym, ap, ◌∙◌}
 use mathlib.Core.Bool.{Bool, true, false}
-use mathlib.Core.List.{List, [], ◌++◌, append-nil, append_assoc}
+use mathlib.Core.List.{List, ◌++◌, append-nil, append_assoc}
 use Prim.Native.Nat.{ℕ, ◌+◌, ◌-◌, ◌≤◌, ◌<◌, ◌^◌}
-use native.Mathlib.Nat.{sub-zero, sub-add-eq}
+use native.Mathlib.Nat.{sub-add-eq}
 use native.Mathlib.Omega.{arith}
 use lib.ListN.{length}
 use borrow.Author.Tests.{le-leb, lt-leb}
 use Rattle.rules.specs.Buffers.{Written, Stands, rest_of, put_back}
 use Rattle.rules.proofs.Laws.Bools.{and_both, and_not_left, and_not_right}
-use Rattle.rules.proofs.Laws.Buffers.{stands_none, stands_kept, stands_rest, stands_fits, stands_more}
+use Rattle.rules.proofs.Laws.Buffers.{stands_kept, stands_fits, stands_more}
 use Rattle.comparison.specs.Compare.{is_pair}
 use Rattle.comparison.specs.declared.Step.{Step}
 use Rattle.text.specs.Lines.{differs_room}
@@ -24,9 +24,6 @@ pub record Going (b : Begins) (here there : List ℕ) (r₀ : Reach) (o₀ o : L
   pub front : Stands bytes o₀ o count
   pub all : listed b here there (length o₀) r₀ ≡ before bytes (listed b here there (length o₀ - count) r)
   pub holds : Holds b here there r
-
-pub begun : (b : Begins) (here there : List ℕ) (r : Reach) (o : List ℕ) → Holds b here there r → Going b here there r o o r 0
-begun b here there r o holds = record { bytes = []; front = stands_none o; all = rw sub-zero; holds = holds }
 
 module _ {b : Begins} {here there : List ℕ} {r₀ : Reach} {o₀ o : List ℕ} {r : Reach} {count : ℕ} (v : Going b here there r₀ o₀ o r count) where
   -- the lines end here
@@ -51,9 +48,6 @@ module _ {b : Begins} {here there : List ℕ} {r₀ : Reach} {o₀ o : List ℕ}
       pair : is_pair (step_in here there r) ≡ true
       pair = sym (ap is_pair at) ∙ sym told ∙ yes
 
-      pub room_left : differs_room ≤ length (rest_of o count)
-      room_left = rw (stands_rest v.front, ← stands_kept v.front) wide
-
       pub counts : r.number + 1 < 2 ^ 64
       counts =
           let o = a_pair_goes_on here there r pair in
@@ -65,7 +59,7 @@ module _ {b : Begins} {here there : List ℕ} {r₀ : Reach} {o₀ o : List ℕ}
           rw (e, at) (omega (arith, o.first_on, o.first_in))
 
       module _ {n : ℕ} {ys : List ℕ} (kept : length ys ≡ length (rest_of o count)) (wrote : Written (line_by b here there s r) n (rest_of o count) ys) where
-        pub within : count + n ≤ length o₀
+        within : count + n ≤ length o₀
         within = stands_fits v.front (line_by b here there s r) ys n wrote kept
 
         pub goes : (r₁ : Reach) → r₁ ≡ advanced s r → Going b here there r₀ o₀ (put_back o count ys) r₁ (count + n)

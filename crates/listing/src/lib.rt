@@ -2,6 +2,7 @@
 // caller lends. A caller that can hold only parts of two long traces lends those, with the places at which they begin, and goes
 // on with others where these end. What a line says is decided below, and which bytes are held above.
 #![tactic(auto)]
+
 ghost use Rattle.std.specs.Prelude.{◌≡◌, ◌+◌, ◌^◌, ◌≤◌, ◌<◌, length};
 ghost use Rattle.rules.specs.Buffers.{Written};
 ghost use Rattle.comparison.specs.Compare.{step_at};

@@ -3,7 +3,6 @@
 use mathlib.Core.Path.{sym, ap}
 use Rattle.comparison.specs.declared.Step.{Step}
 use Rattle.listing.specs.Listing.{advanced}
-use borrow.Author.Rules.{rules}
 use Rattle.listing.proofs.advance.Goals as goal
 
 pub returns-in-Same : goal.returns-in-Same

@@ -15,7 +15,6 @@ use Rattle.comparison.specs.declared.Longer.{Longer}
 use Rattle.comparison.specs.declared.Step.{Step}
 use Rattle.text.specs.Lines.{ends_line, likeness_line, short_room}
 use Rattle.listing.specs.Listing.{rest_line_by, closing_lines, closing_by, closing_room}
-use borrow.Author.Rules.{rules}
 use Rattle.listing.proofs.close.Goals as goal
 
 -- three short lines, one behind the other
@@ -44,7 +43,6 @@ closes s number alike first second e l g o₀ o₁ ys zs n m k f h i room a b c 
 
 pub returns : goal.returns
 returns c =
-    let start = c in
-    closes start.args.s start.args.r.number start.args.r.alike start.args.left.first start.args.left.second _ _ _ _ _ _ _ _ _ _
-    c.ends_by-ends.ensures c.likeness_by-likeness.ensures c.longer_of.ensures start.requires
+    closes c.args.s c.args.r.number c.args.r.alike c.args.left.first c.args.left.second _ _ _ _ _ _ _ _ _ _
+    c.ends_by-ends.ensures c.likeness_by-likeness.ensures c.longer_of.ensures c.requires
     c.put_ends-one.ensures c.put_rest_of.ensures c.put_likeness-three.ensures

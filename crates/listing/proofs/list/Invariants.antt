@@ -1,12 +1,8 @@
 -- `listing::list` meets its contract: each turn passes one pair, and its line stands behind those before it.
 -- Assumes nothing.
 use Prim.Native.Nat.{◌-◌}
-use native.Mathlib.Omega.{arith}
 use lib.ListN.{length}
-use borrow.Author.Rules.{rules}
-use borrow.Author.Tests.{not-true, not-false}
-use Rattle.rules.proofs.Laws.Buffers.{stands_left, stands_kept}
-use Rattle.listing.proofs.Going.{Going, begun, no_pair, no_room, room_left, counts, nearer, within, goes}
+use Rattle.listing.proofs.Going.{Going}
 use Rattle.listing.proofs.list.Given as goal
 
 abbrev pub invariant-loop-b : goal.invariant-loop-b

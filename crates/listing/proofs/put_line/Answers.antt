@@ -10,7 +10,6 @@ use Rattle.text.specs.Lines.{differs_line, differs_room}
 use Rattle.listing.specs.Listing.{differs_at}
 use Rattle.listing.specs.declared.Begins.{Begins}
 use Rattle.listing.specs.declared.Reach.{Reach}
-use borrow.Author.Rules.{rules}
 use Rattle.listing.proofs.put_line.Goals as goal
 
 written_at : (b : Begins) (here there : List ℕ) (r : Reach) (x y : Record) (n : ℕ) (o₀ o : List ℕ) → x ≡ record_at here r.first → y ≡ record_at there r.second
@@ -21,6 +20,5 @@ written_at b here there r x y n o₀ o e f w = rw (← e, ← f) w
 
 pub returns : goal.returns
 returns c =
-    let start = c in
-    written_at start.args.b start.args.here.now start.args.there.now start.args.r _ _ _ _ _
+    written_at c.args.b c.args.here.now c.args.there.now c.args.r _ _ _ _ _
     c.record_in.ensures c.record_in-2.ensures c.put_differs.ensures

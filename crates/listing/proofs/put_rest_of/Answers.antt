@@ -1,7 +1,6 @@
 -- `listing::put_rest_of` meets its contract.
 -- Assumes nothing.
 use Rattle.listing.specs.Listing.{rest_line_by}
-use borrow.Author.Rules.{rules}
 use Rattle.listing.proofs.put_rest_of.Goals as goal
 
 pub returns-in-First : goal.returns-in-First

@@ -14,7 +14,6 @@ use Rattle.text.specs.Lines.{differs_room}
 use Rattle.comparison.specs.declared.Step.{Step}
 use Rattle.comparison.specs.declared.Step.TheVariants.{Differs}
 use Rattle.listing.specs.Listing.{WholeHere, line_by}
-use borrow.Author.Rules.{rules}
 use Rattle.listing.proofs.put_step.Goals as goal
 
 -- the two records of a pair that differs
@@ -41,42 +40,35 @@ nothing x o e = rw e ((refl, refl), omega arith)
 
 pub put_line-requires : goal.put_line-requires
 put_line-requires c =
-    let start = c in
-    let w = both-stand _ _ _ _ _ start.requires.1.0 c.in-Differs.is in
-    (start.requires.0, (w.0, (w.1, start.requires.1.1)))
+    let w = both-stand _ _ _ _ _ c.requires.1.0 c.in-Differs.is in
+    (c.requires.0, (w.0, (w.1, c.requires.1.1)))
 
 pub returns-in-Same : goal.returns-in-Same
 unfolding line_by
 returns-in-Same c =
-    let start = c in
-    nothing _ start.args.out.now (ap (λ (s : Step). line_by start.args.b start.args.here.now start.args.there.now s start.args.r) c.in-Same.is)
+    nothing _ c.args.out.now (ap (λ (s : Step). line_by c.args.b c.args.here.now c.args.there.now s c.args.r) c.in-Same.is)
 
 pub returns-in-Differs : goal.returns-in-Differs
 unfolding line_by
 returns-in-Differs c =
-    let start = c in
     rw c.in-Differs.is c.put_line.ensures
 
 pub returns-in-FirstEnds : goal.returns-in-FirstEnds
 unfolding line_by
 returns-in-FirstEnds c =
-    let start = c in
-    nothing _ start.args.out.now (ap (λ (s : Step). line_by start.args.b start.args.here.now start.args.there.now s start.args.r) c.in-FirstEnds.is)
+    nothing _ c.args.out.now (ap (λ (s : Step). line_by c.args.b c.args.here.now c.args.there.now s c.args.r) c.in-FirstEnds.is)
 
 pub returns-in-SecondEnds : goal.returns-in-SecondEnds
 unfolding line_by
 returns-in-SecondEnds c =
-    let start = c in
-    nothing _ start.args.out.now (ap (λ (s : Step). line_by start.args.b start.args.here.now start.args.there.now s start.args.r) c.in-SecondEnds.is)
+    nothing _ c.args.out.now (ap (λ (s : Step). line_by c.args.b c.args.here.now c.args.there.now s c.args.r) c.in-SecondEnds.is)
 
 pub returns-in-BothEnd : goal.returns-in-BothEnd
 unfolding line_by
 returns-in-BothEnd c =
-    let start = c in
-    nothing _ start.args.out.now (ap (λ (s : Step). line_by start.args.b start.args.here.now start.args.there.now s start.args.r) c.in-BothEnd.is)
+    nothing _ c.args.out.now (ap (λ (s : Step). line_by c.args.b c.args.here.now c.args.there.now s c.args.r) c.in-BothEnd.is)
 
 pub returns-in-Refused : goal.returns-in-Refused
 unfolding line_by
 returns-in-Refused c =
-    let start = c in
-    nothing _ start.args.out.now (ap (λ (s : Step). line_by start.args.b start.args.here.now start.args.there.now s start.args.r) c.in-Refused.is)
+    nothing _ c.args.out.now (ap (λ (s : Step). line_by c.args.b c.args.here.now c.args.there.now s c.args.r) c.in-Refused.is)
