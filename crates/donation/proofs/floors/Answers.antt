@@ -12,22 +12,20 @@ use Rattle.donation.proofs.floors.Goals as goal
 
 pub floored-requires : goal.floored-requires
 floored-requires c =
-    let at = c in
-    let a = at.args in (
+    let a = c.args in (
       search rules,
       search rules,
-      quotient_fits a.active a.donors at.requires at.loop-n.n (search rules) c.has.result
+      quotient_fits a.active a.donors c.requires c.loop-n.n (search rules) c.has.result
           c.has-in-loop-n.result c.has.ensures c.has-in-loop-n.ensures,
     )
 
 pub loop-n-preserved : goal.loop-n-preserved
 loop-n-preserved c =
-    let at = c in
-    let a = at.args in
-    let node : at.loop-n.n < 64 = search rules in (
-      place_put (share_given a.active a.donors a.left a.kept 0 a.bases.now a.targets.now) (replicate 64 0) at.loop-n.shares at.loop-n.n 0
-          refl at.loop-n.invariant.0 node c.floored.result
-          (share_floored a.active a.donors a.left a.kept a.bases.now a.targets.now at.loop-n.n c.floored.result
+    let a = c.args in
+    let node : c.loop-n.n < 64 = search rules in (
+      place_put (share_given a.active a.donors a.left a.kept 0 a.bases.now a.targets.now) (replicate 64 0) c.loop-n.shares c.loop-n.n 0
+          refl c.loop-n.invariant.0 node c.floored.result
+          (share_floored a.active a.donors a.left a.kept a.bases.now a.targets.now c.loop-n.n c.floored.result
           c.has.result c.has-in-loop-n.result c.has.ensures
           c.has-in-loop-n.ensures c.floored.ensures),
       omega arith,
@@ -35,7 +33,6 @@ loop-n-preserved c =
 
 pub returns : goal.returns
 returns c =
-    let at = c in
-    let a = at.args in
-    places_done (share_given a.active a.donors a.left a.kept 0 a.bases.now a.targets.now) (replicate 64 0) at.loop-n.shares at.loop-n.n
-    refl at.loop-n.invariant.0 (search rules)
+    let a = c.args in
+    places_done (share_given a.active a.donors a.left a.kept 0 a.bases.now a.targets.now) (replicate 64 0) c.loop-n.shares c.loop-n.n
+    refl c.loop-n.invariant.0 (search rules)

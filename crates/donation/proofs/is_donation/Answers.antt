@@ -5,5 +5,4 @@ use Rattle.donation.proofs.is_donation.Goals as goal
 
 pub returns : goal.returns
 returns c =
-    let at = c in
-    both_some at.args.active at.args.donors c.takers.result at.ranges.donors.fits at.requires.0 at.requires.1 c.takers.ensures
+    both_some c.args.active c.args.donors c.takers.result c.ranges.donors.fits c.requires.0 c.requires.1 c.takers.ensures

@@ -23,16 +23,14 @@ unfolding sum_to
 loop-n-init c = search rules
 
 pub loop-n-preserved : goal.loop-n-preserved
-loop-n-preserved c =
-    let at = c in (
-      one_more at.args.set at.args.shares.now at.loop-n.n at.loop-n.sum c.adds-sum.result c.has.result
-          at.loop-n.invariant.0 c.has.ensures c.adds-sum.ensures.0,
-      omega arith,
-      omega arith,
-    )
+loop-n-preserved c = (
+  one_more c.args.set c.args.shares.now c.loop-n.n c.loop-n.sum c.adds-sum.result c.has.result
+      c.loop-n.invariant.0 c.has.ensures c.adds-sum.ensures.0,
+  omega arith,
+  omega arith,
+)
 
 pub returns : goal.returns
 unfolding sum_over
 returns c =
-    let at = c in
-    at.loop-n.invariant.0 ∙ ap (sum_to (part_at at.args.set at.args.shares.now)) (omega arith)
+    c.loop-n.invariant.0 ∙ ap (sum_to (part_at c.args.set c.args.shares.now)) (omega arith)

@@ -9,5 +9,4 @@ returns-then-stay c = let a = c.args in λ active p e f. left_in active p a.set 
 
 pub returns-else-stay : goal.returns-else-stay
 returns-else-stay c =
-    let start = c in
-    λ active p e f. c.remove.ensures ∙ taken_out active p start.args.set start.args.n e (sym f ∙ c.if-stay.false)
+    λ active p e f. c.remove.ensures ∙ taken_out active p c.args.set c.args.n e (sym f ∙ c.if-stay.false)

@@ -6,8 +6,7 @@ use Rattle.plan.proofs.grown.Goals as goal
 
 pub returns-then-inside : goal.returns-then-inside
 returns-then-inside c =
-    let start = c in
-    λ p e f. c.insert.ensures ∙ put_in p start.args.set start.args.n e start.requires (sym f ∙ c.if-inside.true)
+    λ p e f. c.insert.ensures ∙ put_in p c.args.set c.args.n e c.requires (sym f ∙ c.if-inside.true)
 
 pub returns-else-inside : goal.returns-else-inside
 returns-else-inside c = let a = c.args in λ p e f. left_out p a.set a.n e (sym f ∙ c.if-inside.false)

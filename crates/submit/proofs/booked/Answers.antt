@@ -7,10 +7,7 @@ use Rattle.submit.proofs.booked.Goals as goal
 
 pub returns-then-is_taken : goal.returns-then-is_taken
 returns-then-is_taken c =
-    let noting = c in
-    let taking = noting in
-    let test = taking in
-    books _ _ _ _ _ (sym test.is_taken.ensures ∙ test.if-is_taken.true) taking.row_after-taken.ensures noting.noted-last.ensures c.queueing_of.ensures
+    books _ _ _ _ _ (sym c.is_taken.ensures ∙ c.if-is_taken.true) c.row_after-taken.ensures c.noted-last.ensures c.queueing_of.ensures
 
 pub returns : goal.returns
 returns c = books_nothing _ _ _ _ _ (sym c.is_taken.ensures ∙ c.if-is_taken.false)
@@ -20,5 +17,4 @@ row_after-taken-requires c = c.requires.takes (sym c.is_taken.ensures ∙ c.if-i
 
 pub noted-last-requires : goal.noted-last-requires
 noted-last-requires c =
-    let test = c in
-    ((bio_in_range_lem _).0 (test.requires.range (sym test.is_taken.ensures ∙ test.if-is_taken.true))).sector_fits
+    ((bio_in_range_lem _).0 (c.requires.range (sym c.is_taken.ensures ∙ c.if-is_taken.true))).sector_fits

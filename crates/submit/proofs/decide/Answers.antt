@@ -5,23 +5,17 @@ use Rattle.submit.proofs.decide.Goals as goal
 
 pub returns-then-is_taken-own : goal.returns-then-is_taken-own
 returns-then-is_taken-own c =
-    let r = c in
-    activates_first _ _ _ r.own_of-own.ensures r.rule-ruled.ensures c.is_taken.ensures c.if-is_taken-own.true
+    activates_first _ _ _ c.own_of-own.ensures c.rule-ruled.ensures c.is_taken.ensures c.if-is_taken-own.true
 
 pub returns : goal.returns
 returns c =
-    let booking = c in
-    let left = booking in
-    let r = left in
-    judges _ _ _ r.own_of-own.ensures r.rule-ruled.ensures left.is_taken.ensures left.if-is_taken-own.false
-    booking.wide.ensures booking.booked-judged.ensures c.shares_after.ensures
+    judges _ _ _ c.own_of-own.ensures c.rule-ruled.ensures c.is_taken.ensures c.if-is_taken-own.false
+    c.wide.ensures c.booked-judged.ensures c.shares_after.ensures
 
 pub booked-judged-requires : goal.booked-judged-requires
 booked-judged-requires c =
-    let left = c in
-    let r = left in
-    can_book _ _ _ r.own_of-own.ensures r.rule-ruled.ensures left.is_taken.ensures left.if-is_taken-own.false
-    r.requires c.wide.ensures
+    can_book _ _ _ c.own_of-own.ensures c.rule-ruled.ensures c.is_taken.ensures c.if-is_taken-own.false
+    c.requires c.wide.ensures
 
 pub rule-ruled-requires : goal.rule-ruled-requires
 rule-ruled-requires c = can_rule _ _ c.own_of-own.ensures c.requires

@@ -19,12 +19,9 @@ module _ (b : Bio) (row : Row) where
 
 pub returns-then-is_flush : goal.returns-then-is_flush
 returns-then-is_flush c =
-    let told = c in
-    only-counted told.args.bio told.args.row (sym told.is_flush.ensures ∙ c.if-is_flush.true) c.counted.ensures
+    only-counted c.args.bio c.args.row (sym c.is_flush.ensures ∙ c.if-is_flush.true) c.counted.ensures
 
 pub returns-else-is_flush : goal.returns-else-is_flush
 returns-else-is_flush c =
-    let here = c in
-    let told = here in
-    moved told.args.bio told.args.row (sym told.is_flush.ensures ∙ here.if-is_flush.false) here.end_of.ensures
+    moved c.args.bio c.args.row (sym c.is_flush.ensures ∙ c.if-is_flush.false) c.end_of.ensures
     c.ended.ensures

@@ -9,29 +9,19 @@ returns-then-not-own c = no_leaf_ruled _ _ (not-true _ c.if-not-own.true)
 
 pub returns-then-own : goal.returns-then-own
 returns-then-own c =
-    let wide = c in
-    let costed = wide in
-    let asked = costed in
-    active_ruled _ _ (not-false _ asked.if-not-own.false) asked.cost_of-costing.ensures.value costed.in-Costs.is
-    wide.if-own.true wide.is_forced-forced.ensures wide.wide.ensures c.when_active-answer.ensures
+    active_ruled _ _ (not-false _ c.if-not-own.false) c.cost_of-costing.ensures.value c.in-Costs.is
+    c.if-own.true c.is_forced-forced.ensures c.wide.ensures c.when_active-answer.ensures
 
 pub returns-else-own : goal.returns-else-own
 returns-else-own c =
-    let rest = c in
-    let costed = rest in
-    let asked = costed in
-    inactive_ruled _ _ (not-false _ asked.if-not-own.false) asked.cost_of-costing.ensures.value costed.in-Costs.is
-    rest.if-own.false rest.is_forced-forced.ensures c.when_inactive-answer.ensures
+    inactive_ruled _ _ (not-false _ c.if-not-own.false) c.cost_of-costing.ensures.value c.in-Costs.is
+    c.if-own.false c.is_forced-forced.ensures c.when_inactive-answer.ensures
 
 pub returns-in-Refused : goal.returns-in-Refused
 returns-in-Refused c =
-    let costed = c in
-    let asked = costed in
-    uncosted_ruled _ _ (not-false _ asked.if-not-own.false) asked.cost_of-costing.ensures.value costed.in-Refused.is
+    uncosted_ruled _ _ (not-false _ c.if-not-own.false) c.cost_of-costing.ensures.value c.in-Refused.is
 
 pub when_active-answer-requires : goal.when_active-answer-requires
 when_active-answer-requires c =
-    let costed = c in
-    let asked = costed in
-    can_answer _ _ (not-false _ asked.if-not-own.false) asked.cost_of-costing.ensures.value costed.in-Costs.is
-    asked.requires c.if-own.true c.wide.ensures
+    can_answer _ _ (not-false _ c.if-not-own.false) c.cost_of-costing.ensures.value c.in-Costs.is
+    c.requires c.if-own.true c.wide.ensures

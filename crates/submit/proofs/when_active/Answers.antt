@@ -5,10 +5,8 @@ use Rattle.submit.proofs.when_active.Goals as goal
 
 pub returns-in-Accepted : goal.returns-in-Accepted
 returns-in-Accepted c =
-    let judging = c in
-    answers _ _ _ _ _ judging.answer_to-answer.ensures judging.room-verdict.ensures c.in-Accepted.is
+    answers _ _ _ _ _ c.answer_to-answer.ensures c.room-verdict.ensures c.in-Accepted.is
 
 pub returns-in-Refused : goal.returns-in-Refused
 returns-in-Refused c =
-    let judging = c in
-    refuses _ _ _ _ _ judging.answer_to-answer.ensures judging.room-verdict.ensures _ c.in-Refused.is
+    refuses _ _ _ _ _ c.answer_to-answer.ensures c.room-verdict.ensures _ c.in-Refused.is

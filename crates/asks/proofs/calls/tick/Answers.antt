@@ -5,5 +5,4 @@ use Rattle.asks.proofs.calls.tick.Goals as goal
 
 pub returns : goal.returns
 returns c =
-    let ticked = c in
-    rw ticked.tick-done.ensures.value.0 (ticked_keeps ticked.requires _ _)
+    rw c.tick-done.ensures.value.0 (ticked_keeps c.requires _ _)

@@ -29,21 +29,17 @@ loop-n-init c = (search rules, refl)
 
 -- above the needs that a lie about it may leave true: the first error is what is false
 pub loop-n-preserved : goal.loop-n-preserved
-loop-n-preserved c =
-    let at = c in
-    let start = at in (
-      omega arith,
-      step start.args.before.now start.args.after.now start.args.rows at.loop-n.next at.loop-n.n (search rules) at.loop-n.invariant.1 (search rules)
-          c.rebudget-scaled.result
-          (rw (← c.wide.ensures, ← c.wide-in-loop-n.ensures) c.rebudget-scaled.ensures),
-    )
+loop-n-preserved c = (
+  omega arith,
+  step c.args.before.now c.args.after.now c.args.rows c.loop-n.next c.loop-n.n (search rules) c.loop-n.invariant.1 (search rules)
+      c.rebudget-scaled.result
+      (rw (← c.wide.ensures, ← c.wide-in-loop-n.ensures) c.rebudget-scaled.ensures),
+)
 
 pub rebudget-scaled-requires : goal.rebudget-scaled-requires
 rebudget-scaled-requires c =
-    let at = c in
-    let start = at in
-    let same = here start.args.before.now start.args.after.now start.args.rows at.loop-n.next at.loop-n.n (search rules) at.loop-n.invariant.1 (search rules) in
-    let fits : (get_or start.args.rows at.loop-n.n empty_row).budget.0 * get_or start.args.before.now at.loop-n.n 0 ≤ 2 ^ 61 + 2 ^ 30 = start.requires at.loop-n.n in
+    let same = here c.args.before.now c.args.after.now c.args.rows c.loop-n.next c.loop-n.n (search rules) c.loop-n.invariant.1 (search rules) in
+    let fits : (get_or c.args.rows c.loop-n.n empty_row).budget.0 * get_or c.args.before.now c.loop-n.n 0 ≤ 2 ^ 61 + 2 ^ 30 = c.requires c.loop-n.n in
     rw (c.wide.ensures, same) (omega arith)
 
 pub returns : goal.returns

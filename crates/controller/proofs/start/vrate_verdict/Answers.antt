@@ -9,11 +9,9 @@ use Rattle.controller.proofs.start.vrate_verdict.Goals as goal
 pub returns-then-in_range : goal.returns-then-in_range
 unfolding vrate_checks
 returns-then-in_range c =
-    let test = c in
-    let e : vrate_in_range test.args.v ≡ true = sym test.in_range.ensures ∙ c.if-in_range.true in rw e
+    let e : vrate_in_range c.args.v ≡ true = sym c.in_range.ensures ∙ c.if-in_range.true in rw e
 
 pub returns : goal.returns
 unfolding vrate_checks
 returns c =
-    let test = c in
-    let e : vrate_in_range test.args.v ≡ false = sym test.in_range.ensures ∙ c.if-in_range.false in rw e
+    let e : vrate_in_range c.args.v ≡ false = sym c.in_range.ensures ∙ c.if-in_range.false in rw e

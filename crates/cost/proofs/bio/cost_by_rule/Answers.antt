@@ -23,17 +23,15 @@ module _ (m : Model) (row : Row) (b : Bio) where
   found price sequential cost f p q e = rw (f, ← q, ← p) e
 
 pub cost_at-requires : goal.cost_at-requires
-cost_at-requires c =
-    let start = c in (
-      rw c.price_for-price.ensures (price_of_bio_sound start.requires.0 (is_write start.args.bio)),
-      start.requires.1,
-    )
+cost_at-requires c = (
+  rw c.price_for-price.ensures (price_of_bio_sound c.requires.0 (is_write c.args.bio)),
+  c.requires.1,
+)
 
 pub returns-then-is_flush : goal.returns-then-is_flush
 returns-then-is_flush c = flushed _ _ _ (sym c.is_flush.ensures ∙ c.if-is_flush.true)
 
 pub returns-else-is_flush : goal.returns-else-is_flush
 returns-else-is_flush c =
-    let priced = c in
-    found _ _ _ _ _ _ (sym priced.is_flush.ensures ∙ priced.if-is_flush.false)
-    priced.price_for-price.ensures c.is_sequential.ensures c.cost_at.ensures
+    found _ _ _ _ _ _ (sym c.is_flush.ensures ∙ c.if-is_flush.false)
+    c.price_for-price.ensures c.is_sequential.ensures c.cost_at.ensures

@@ -29,18 +29,15 @@ module _ (m : Model) (row : Row) (b : Bio) where
 
 pub cost_by_rule-cost-requires : goal.cost_by_rule-cost-requires
 cost_by_rule-cost-requires c =
-    let start = c in
-    let range = (bio_in_range_lem start.args.bio).0 (sym c.in_range.ensures ∙ c.if-in_range.true) in
-    (start.requires, bytes_most_lem start.args.bio range)
+    let range = (bio_in_range_lem c.args.bio).0 (sym c.in_range.ensures ∙ c.if-in_range.true) in
+    (c.requires, bytes_most_lem c.args.bio range)
 
 pub returns-then-cost-le-COST_MOST : goal.returns-then-cost-le-COST_MOST
-returns-then-cost-le-COST_MOST c = let costed = c in
-    let e = affordable _ _ _ _ (sym costed.in_range.ensures ∙ costed.if-in_range.true) costed.cost_by_rule-cost.ensures c.if-cost-le-COST_MOST.true in
+returns-then-cost-le-COST_MOST c = let e = affordable _ _ _ _ (sym c.in_range.ensures ∙ c.if-in_range.true) c.cost_by_rule-cost.ensures c.if-cost-le-COST_MOST.true in
     record { value = e; number = cost_on_paper _ _ _ e }
 
 pub returns-else-cost-le-COST_MOST : goal.returns-else-cost-le-COST_MOST
-returns-else-cost-le-COST_MOST c = let costed = c in
-    let e = dear _ _ _ _ (sym costed.in_range.ensures ∙ costed.if-in_range.true) costed.cost_by_rule-cost.ensures c.if-cost-le-COST_MOST.false in
+returns-else-cost-le-COST_MOST c = let e = dear _ _ _ _ (sym c.in_range.ensures ∙ c.if-in_range.true) c.cost_by_rule-cost.ensures c.if-cost-le-COST_MOST.false in
     record { value = e; number = cost_on_paper _ _ _ e }
 
 pub returns-else-in_range : goal.returns-else-in_range

@@ -3,4 +3,4 @@
 use Rattle.cost.proofs.bio.in_range.Goals as goal
 
 pub returns : goal.returns
-returns c = let sized = c in rw (sized.is_flush.ensures, sized.bytes_in_range.ensures)
+returns c = rw (c.is_flush.ensures, c.bytes_in_range.ensures)

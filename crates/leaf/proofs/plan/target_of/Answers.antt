@@ -32,13 +32,11 @@ module _ (since : Virt) (usage : Abs) {used : ℕ} (e : used ≡ used_share sinc
 
 pub returns-then-usage-eq0 : goal.returns-then-usage-eq0
 returns-then-usage-eq0 c =
-    let at = c in
-    unused at.args.since at.args.usage refl at.requires.0 c.if-usage-eq0.true
+    unused c.args.since c.args.usage refl c.requires.0 c.if-usage-eq0.true
 
 pub overflow_add-target : goal.overflow_add-target
 overflow_add-target c =
-    let at = c in
-    omega (arith, within-the-whole at.args.since at.args.usage c.used_share-used.ensures at.requires.0)
+    omega (arith, within-the-whole c.args.since c.args.usage c.used_share-used.ensures c.requires.0)
 
 pub returns-then-target-lt-SHARE_FLOOR : goal.returns-then-target-lt-SHARE_FLOOR
 returns-then-target-lt-SHARE_FLOOR c =

@@ -11,11 +11,9 @@ returns-then-owes c = simp (sym c.owes.ensures ∙ c.if-owes.true)
 pub returns-then-fits : goal.returns-then-fits
 unfolding answer_to
 returns-then-fits c =
-    let at = c in
-    simp (sym at.owes.ensures ∙ at.if-owes.false, sym c.fits.ensures ∙ c.if-fits.true)
+    simp (sym c.owes.ensures ∙ c.if-owes.false, sym c.fits.ensures ∙ c.if-fits.true)
 
 pub returns-else-fits : goal.returns-else-fits
 unfolding answer_to
 returns-else-fits c =
-    let at = c in
-    simp (sym at.owes.ensures ∙ at.if-owes.false, sym c.fits.ensures ∙ c.if-fits.false)
+    simp (sym c.owes.ensures ∙ c.if-owes.false, sym c.fits.ensures ∙ c.if-fits.false)

@@ -17,11 +17,9 @@ returns-then-waiting-gt0 c = simp (sym c.owes.ensures ∙ c.if-owes.false, lt-lt
 pub returns-then-fits : goal.returns-then-fits
 unfolding answer_to
 returns-then-fits c =
-    let at = c in
-    simp (sym at.owes.ensures ∙ at.if-owes.false, le-ltb _ _ c.if-waiting-gt0.false, sym c.fits.ensures ∙ c.if-fits.true)
+    simp (sym c.owes.ensures ∙ c.if-owes.false, le-ltb _ _ c.if-waiting-gt0.false, sym c.fits.ensures ∙ c.if-fits.true)
 
 pub returns-else-fits : goal.returns-else-fits
 unfolding answer_to
 returns-else-fits c =
-    let at = c in
-    simp (sym at.owes.ensures ∙ at.if-owes.false, le-ltb _ _ c.if-waiting-gt0.false, sym c.fits.ensures ∙ c.if-fits.false)
+    simp (sym c.owes.ensures ∙ c.if-owes.false, le-ltb _ _ c.if-waiting-gt0.false, sym c.fits.ensures ∙ c.if-fits.false)

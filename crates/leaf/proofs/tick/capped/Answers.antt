@@ -17,11 +17,9 @@ returns-then-waiting-gt0 c = simp (sym c.owes.ensures ∙ c.if-owes.false, lt-lt
 pub returns-then-row-gt-IDLE_CAP : goal.returns-then-row-gt-IDLE_CAP
 unfolding capped
 returns-then-row-gt-IDLE_CAP c =
-    let at = c in
-    simp (sym at.owes.ensures ∙ at.if-owes.false, le-ltb _ _ at.if-waiting-gt0.false, lt-ltb _ _ c.if-row-gt-IDLE_CAP.true) c.with_budget.ensures
+    simp (sym c.owes.ensures ∙ c.if-owes.false, le-ltb _ _ c.if-waiting-gt0.false, lt-ltb _ _ c.if-row-gt-IDLE_CAP.true) c.with_budget.ensures
 
 pub returns-else-row-gt-IDLE_CAP : goal.returns-else-row-gt-IDLE_CAP
 unfolding capped
 returns-else-row-gt-IDLE_CAP c =
-    let at = c in
-    simp (sym at.owes.ensures ∙ at.if-owes.false, le-ltb _ _ at.if-waiting-gt0.false, le-ltb _ _ c.if-row-gt-IDLE_CAP.false)
+    simp (sym c.owes.ensures ∙ c.if-owes.false, le-ltb _ _ c.if-waiting-gt0.false, le-ltb _ _ c.if-row-gt-IDLE_CAP.false)

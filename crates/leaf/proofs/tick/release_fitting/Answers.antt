@@ -11,61 +11,47 @@ loop-len-init c = begins _ _ _ _ c.requires.0 c.requires.1
 
 pub fits-requires : goal.fits-requires
 fits-requires c =
-    let at = c in
-    first_is_priced at.loop-len.invariant (cost_is_oldest (cut at.args.queue at.loop-len.head at.loop-len.len) c.place-oldest.ensures)
+    first_is_priced c.loop-len.invariant (cost_is_oldest (cut c.args.queue c.loop-len.head c.loop-len.len) c.place-oldest.ensures)
 
 -- above the needs that a lie about it may leave true: the first error is what is false
 pub loop-len-preserved : goal.loop-len-preserved
 loop-len-preserved c =
-    let test = c in
-    let place = test in
-    let at = place in
-    let cost = cost_is_oldest (cut at.args.queue at.loop-len.head at.loop-len.len) place.place-oldest.ensures in
-    goes_on at.loop-len.invariant (omega (arith, place.loop-len-test.true))
-    (first_told at.loop-len.invariant cost test.fits.ensures test.if-fits.true)
+    let cost = cost_is_oldest (cut c.args.queue c.loop-len.head c.loop-len.len) c.place-oldest.ensures in
+    goes_on c.loop-len.invariant (omega (arith, c.loop-len-test.true))
+    (first_told c.loop-len.invariant cost c.fits.ensures c.if-fits.true)
     cost
-    (id_is_oldest (cut at.args.queue at.loop-len.head at.loop-len.len) place.place-oldest.ensures)
+    (id_is_oldest (cut c.args.queue c.loop-len.head c.loop-len.len) c.place-oldest.ensures)
     c.charged-row.ensures
     c.behind-head.ensures
 
 pub charged-row-requires : goal.charged-row-requires
 charged-row-requires c =
-    let test = c in
-    let place = test in
-    let at = place in
-    let cost = cost_is_oldest (cut at.args.queue at.loop-len.head at.loop-len.len) place.place-oldest.ensures in
-    first_is_payable at.loop-len.invariant cost (first_told at.loop-len.invariant cost test.fits.ensures test.if-fits.true)
+    let cost = cost_is_oldest (cut c.args.queue c.loop-len.head c.loop-len.len) c.place-oldest.ensures in
+    first_is_payable c.loop-len.invariant cost (first_told c.loop-len.invariant cost c.fits.ensures c.if-fits.true)
 
 pub behind-head-requires : goal.behind-head-requires
 behind-head-requires c =
-    let goes = c in
-    goes.loop-len.invariant.ready.waiting.head_in
+    c.loop-len.invariant.ready.waiting.head_in
 
 pub overflow_sub-len : goal.overflow_sub-len
 overflow_sub-len c =
-    let goes = c in
-    omega (arith, goes.loop-len-test.true)
+    omega (arith, c.loop-len-test.true)
 
 pub overflow_add-count : goal.overflow_add-count
 overflow_add-count c =
-    let goes = c in
-    let at = goes in
-    omega (arith, at.loop-len.invariant.room, goes.loop-len-test.true, at.well_formed)
+    omega (arith, c.loop-len.invariant.room, c.loop-len-test.true, c.well_formed)
 
 pub loop-len-smaller : goal.loop-len-smaller
 loop-len-smaller c =
-    let goes = c in
-    omega (arith, goes.loop-len-test.true)
+    omega (arith, c.loop-len-test.true)
 
 pub shape_of-out-else-fits : goal.shape_of-out-else-fits
 shape_of-out-else-fits c = c.loop-len.invariant.size
 
 pub returns-else-fits : goal.returns-else-fits
 returns-else-fits c =
-    let place = c in
-    let at = place in
-    let cost = cost_is_oldest (cut at.args.queue at.loop-len.head at.loop-len.len) place.place-oldest.ensures in
-    ends at.loop-len.invariant (first_does_not_fit _ _ _ (first_told at.loop-len.invariant cost c.fits.ensures c.if-fits.false))
+    let cost = cost_is_oldest (cut c.args.queue c.loop-len.head c.loop-len.len) c.place-oldest.ensures in
+    ends c.loop-len.invariant (first_does_not_fit _ _ _ (first_told c.loop-len.invariant cost c.fits.ensures c.if-fits.false))
 
 pub shape_of-out : goal.shape_of-out
 shape_of-out c = c.loop-len.invariant.size

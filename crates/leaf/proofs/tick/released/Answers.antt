@@ -9,6 +9,5 @@ release_fitting-left-requires c = c.requires
 
 pub returns : goal.returns
 returns c =
-    let released = c in
-    let a = released.args in
-    then_capped (release_in a.queue.len a.share a.row a.queue) a.out.now released.release_fitting-left.ensures c.capped-row.ensures
+    let a = c.args in
+    then_capped (release_in a.queue.len a.share a.row a.queue) a.out.now c.release_fitting-left.ensures c.capped-row.ensures

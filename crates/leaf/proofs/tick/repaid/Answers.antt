@@ -22,11 +22,9 @@ overflow_sub-left c = rw c.requires.1 (repayment_most _ _)
 
 pub charged-requires : goal.charged-requires
 charged-requires c =
-    let start = c in
-    rw start.requires.1 (repayment_is_payable start.requires.0)
+    rw c.requires.1 (repayment_is_payable c.requires.0)
 
 pub returns : goal.returns
 returns c =
-    let start = c in
-    let a = start.args in
-    c.with_debt.ensures ∙ pays a.share a.row a.p c.charged.result start.requires.1 c.charged.ensures start.requires.2
+    let a = c.args in
+    c.with_debt.ensures ∙ pays a.share a.row a.p c.charged.result c.requires.1 c.charged.ensures c.requires.2

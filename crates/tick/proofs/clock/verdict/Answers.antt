@@ -19,20 +19,12 @@ overflow_add-clock c = record { fits = vtime_fits (search rules) c.growth-grown.
 
 pub returns-then-clock-grown-gt-VTIME_MOST : goal.returns-then-clock-grown-gt-VTIME_MOST
 returns-then-clock-grown-gt-VTIME_MOST c =
-    let grown = c in
-    let far = grown in
-    sym (clock_is_full _ _ far.if-time-clock.false far.if-time-clock-gt-ELAPSED_MOST.false grown.growth-grown.ensures c.if-clock-grown-gt-VTIME_MOST.true)
+    sym (clock_is_full _ _ c.if-time-clock.false c.if-time-clock-gt-ELAPSED_MOST.false c.growth-grown.ensures c.if-clock-grown-gt-VTIME_MOST.true)
 
 pub returns-then-clock-grown-gt-SINCE_MOST : goal.returns-then-clock-grown-gt-SINCE_MOST
 returns-then-clock-grown-gt-SINCE_MOST c =
-    let full = c in
-    let grown = full in
-    let far = grown in
-    sym (plan_is_due _ _ far.if-time-clock.false far.if-time-clock-gt-ELAPSED_MOST.false grown.growth-grown.ensures full.if-clock-grown-gt-VTIME_MOST.false c.if-clock-grown-gt-SINCE_MOST.true)
+    sym (plan_is_due _ _ c.if-time-clock.false c.if-time-clock-gt-ELAPSED_MOST.false c.growth-grown.ensures c.if-clock-grown-gt-VTIME_MOST.false c.if-clock-grown-gt-SINCE_MOST.true)
 
 pub returns : goal.returns
 returns c =
-    let full = c in
-    let grown = full in
-    let far = grown in
-    sym (time_passes _ _ far.if-time-clock.false far.if-time-clock-gt-ELAPSED_MOST.false grown.growth-grown.ensures full.if-clock-grown-gt-VTIME_MOST.false c.if-clock-grown-gt-SINCE_MOST.false)
+    sym (time_passes _ _ c.if-time-clock.false c.if-time-clock-gt-ELAPSED_MOST.false c.growth-grown.ensures c.if-clock-grown-gt-VTIME_MOST.false c.if-clock-grown-gt-SINCE_MOST.false)
