@@ -79,12 +79,13 @@ while read -r edit; do
     is "$edit is there, and the map does not name it" grep -qxF "$edit" "$work/named"
 done <"$work/there"
 
-# ---- every path: the first word between backticks, if its first folder is one of ours; the kind of file may be left out
+# ---- every path: the first word between backticks, if its first folder is one of ours, but for what a build leaves in out/; the
+# kind of file may be left out
 is_there() { [ -e "$1" ] || compgen -G "$1.*" >"$work/found"; }
 for document in README.md docs/*.md; do
     while read -r path; do
         is "$document names $path, which is not there" is_there "$path"
-    done < <(quoted <"$document" | sed 's|^\./||; s/ .*//' | grep -E '^(\.ci|agreement|bench|cases|crates|docs|examples|second|tests|tools)/' | sort -u)
+    done < <(quoted <"$document" | sed 's|^\./||; s/ .*//' | grep -E '^(\.ci|agreement|bench|cases|crates|docs|examples|second|tests|tools)/' | grep -v /out/ | sort -u)
 done
 
 # ---- every name: a word of small letters with underscores or hyphens is a definition or theorem of ours, or an item or a field
