@@ -22,7 +22,7 @@ cd "$work" || exit 1
 once='twice (a pipe brings its bytes once: save them in a file, and name that)'
 two='compare: name two traces: ./compare A B'
 full='compare: cannot write standard output (make room there, or send it elsewhere)'
-due=323
+due=326
 
 settle "$binary"
 
@@ -107,6 +107,10 @@ refused "the first by a pipe" "compare: cannot read standard input $once" - othe
 refused "the second by a pipe" "compare: cannot read standard input $once" whole - < <(cat other)
 refused "both by one" "compare: cannot read standard input $once" - - < <(cat whole)
 refused "a pipe that brings nothing" "compare: cannot read standard input $once" - nothing < <(:)
+mkfifo gone
+exec 4<>gone 5<gone 4>&-
+refused "a named pipe whose writers are gone" "compare: cannot read standard input $once" - whole <&5
+exec 5<&-
 refused "standard input is closed" "compare: cannot read standard input (name a trace file): Bad file descriptor" - whole <&-
 refused "for the second" "compare: cannot read standard input (name a trace file): Bad file descriptor" whole - <&-
 refused "standard input is a directory" "compare: cannot read standard input (name a trace file): Is a directory" - whole <sub

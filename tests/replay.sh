@@ -21,7 +21,7 @@ cd "$work" || exit 1
 
 hint='(name a trace file, or none to read standard input)'
 full='replay: cannot write standard output (make room there, or send it elsewhere)'
-due=207
+due=209
 
 settle "$binary"
 
@@ -452,6 +452,13 @@ is "./replay: and replayed by" cmp -s out whole.lines
 rm new/target/replay.built
 replay whole
 is "./replay: what rt built needs no build" wrote whole.lines
+builds well
+replay whole
+rm new/crates/replay/out/replay.stamp
+head -c 1000 "$binary" >new/crates/replay/out/replay
+replay whole
+is "./replay: what another build has only begun is built" called 2
+is "./replay: before it is run" cmp -s out whole.lines
 builds fails
 replay whole
 is "./replay: a build that fails" [ "$status" -eq 1 -a ! -s out ]

@@ -4,9 +4,9 @@
 ghost use Rattle.std.specs.Prelude.{◌+◌, ◌^◌, ◌≤◌, ◌<◌, length};
 
 use crate::failure;
-use std::fs::{File, symlink_metadata};
+use std::fs::{File, metadata, symlink_metadata};
 use std::io::{Error, ErrorKind, Read, Result, Seek, SeekFrom, Write};
-use std::os::unix::fs::{FileExt, MetadataExt};
+use std::os::unix::fs::{FileExt, FileTypeExt, MetadataExt};
 use std::rt::Files;
 use std::str::from_utf8;
 use std::thread::yield_now;
@@ -62,10 +62,21 @@ pub fn is_input_open(rt: &impl Files) -> bool {
     is_open(rt, INPUT, FOR_READING)
 }
 
-// Standard input once more, as a file with a place of its own.
+// Is it a pipe? To open one that has a name waits for the other side.
+pub(crate) fn is_pipe(rt: &impl Files, path: &str) -> bool {
+    match metadata(rt, path) {
+        Ok(found) => found.file_type().is_fifo(),
+        Err(_) => false,
+    }
+}
+
+// Standard input once more, as a file with a place of its own. A pipe has none.
 pub fn open_input<R: Files>(rt: &R) -> Result<Descriptor<R::File>> {
     if !is_input_open(rt) {
         return Err(failure::closed());
+    }
+    if is_pipe(rt, INPUT) {
+        return Err(failure::no_place());
     }
     Ok(Descriptor::new(File::open(rt, INPUT)?))
 }

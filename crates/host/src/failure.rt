@@ -8,6 +8,8 @@ const CLOSED: i32 = 9;
 
 const INVALID: i32 = 22;
 
+const NO_PLACE: i32 = 29;
+
 const TOO_LONG: i32 = 36;
 
 const NO_TEXT: i32 = 84;
@@ -15,6 +17,11 @@ const NO_TEXT: i32 = 84;
 // A descriptor that is closed, or open for something else.
 pub fn closed() -> Error {
     Error::from_raw_os_error(CLOSED)
+}
+
+// What has no place to read from: its bytes come once.
+pub(crate) fn no_place() -> Error {
+    Error::from_raw_os_error(NO_PLACE)
 }
 
 // A word that is not there.

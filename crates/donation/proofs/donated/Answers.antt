@@ -15,6 +15,11 @@ hand : {active donors sum gone own : ℕ} {bases targets : List ℕ} → Donatio
     → Handing active donors (sum - gone) bases targets shares others
 hand d s t o = handing d (sub_same s t) (sub_same s o)
 
+pub returns : goal.returns
+returns c =
+    let h = hand c.requires c.sum_over-sum.ensures c.sum_over.ensures c.sum_over-2.ensures _ _ c.floors-shares.ensures c.takers-others.ensures in
+    h.out (sub_same refl c.sum_over-3.ensures) c.lowest-first.ensures
+
 pub overflow_sub-left : goal.overflow_sub-left
 overflow_sub-left c = omega (arith, c.sum_over.ensures, c.sum_over-sum.ensures, targets_within c.requires)
 
@@ -40,8 +45,3 @@ overflow_add-shares c =
     let h = hand c.requires c.sum_over-sum.ensures c.sum_over.ensures c.sum_over-2.ensures _ _ c.floors-shares.ensures c.takers-others.ensures in
     let most = h.most (sub_same refl c.sum_over-3.ensures) c.lowest-first.ensures in
     omega (arith, most)
-
-pub returns : goal.returns
-returns c =
-    let h = hand c.requires c.sum_over-sum.ensures c.sum_over.ensures c.sum_over-2.ensures _ _ c.floors-shares.ensures c.takers-others.ensures in
-    h.out (sub_same refl c.sum_over-3.ensures) c.lowest-first.ensures

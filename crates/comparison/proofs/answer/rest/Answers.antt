@@ -25,6 +25,10 @@ module _ (first second : List ℕ) (c : Comparison) (x y : Longer) (here : c ≡
 all_behind : (n : ℕ) (l : List ℕ) → take (length l - n) (drop n l) ≡ drop n l
 all_behind n l = take_all (length l - n) (drop n l) (omega (arith, length-drop n l))
 
+pub returns-in-First : goal.returns-in-First
+returns-in-First c =
+    all_behind (length c.args.second.now) c.args.first.now ∙ rest_told _ _ _ _ _ c.compare-c.ensures.value c.longer_of.ensures c.in-First.is
+
 pub slice_bounds-result-count : goal.slice_bounds-result-count
 slice_bounds-result-count c = (the_longer_is_longer _ _).1 (longer_told _ _ _ _ _ c.compare-c.ensures.value c.longer_of.ensures c.in-First.is)
 
@@ -36,10 +40,6 @@ slice_bounds-result-count-in-Second c = (the_longer_is_longer _ _).0 (longer_tol
 
 pub slice_bounds-result-start-in-Second : goal.slice_bounds-result-start-in-Second
 slice_bounds-result-start-in-Second c = let fits = ((the_longer_is_longer _ _).0 (longer_told _ _ _ _ _ c.compare-c.ensures.value c.longer_of.ensures c.in-Second.is)) in search rules
-
-pub returns-in-First : goal.returns-in-First
-returns-in-First c =
-    all_behind (length c.args.second.now) c.args.first.now ∙ rest_told _ _ _ _ _ c.compare-c.ensures.value c.longer_of.ensures c.in-First.is
 
 pub returns-in-Second : goal.returns-in-Second
 returns-in-Second c =

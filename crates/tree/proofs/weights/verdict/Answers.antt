@@ -43,13 +43,13 @@ thin_is : (n w : ℕ) (t : Tree) {with : Tree} → with ≡ with_weight n w t �
     → is_thin (with_weight n w t) ≡ b
 thin_is n w t i e f = rw i at (sym e ∙ f)
 
-pub returns-then-not-at-tree : goal.returns-then-not-at-tree
-returns-then-not-at-tree c = absent c.args.tree c.args.weight c.wide-at.ensures c.if-not-at-tree.true
-
 pub returns-then-not-weight_in_range : goal.returns-then-not-weight_in_range
 returns-then-not-weight_in_range c =
     out_of_range c.args.tree c.args.weight c.wide-at.ensures c.if-not-at-tree.false
     (sym c.weight_in_range.ensures ∙ c.if-not-weight_in_range.true)
+
+pub returns-then-not-at-tree : goal.returns-then-not-at-tree
+returns-then-not-at-tree c = absent c.args.tree c.args.weight c.wide-at.ensures c.if-not-at-tree.true
 
 pub with_weight-requires : goal.with_weight-requires
 with_weight-requires c = inside c.args.tree c.args.weight c.wide-at.ensures c.if-not-at-tree.false c.requires
