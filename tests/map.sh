@@ -88,18 +88,21 @@ for document in README.md docs/*.md; do
     done < <(quoted <"$document" | sed 's|^\./||; s/ .*//' | grep -E '^(\.ci|agreement|bench|cases|crates|docs|examples|second|tests|tools)/' | grep -v /out/ | sort -u)
 done
 
-# ---- every name: a word of small letters with underscores or hyphens is a definition or theorem of ours, or an item or a field
-# of the code, an edit, or a stored case
+# ---- every name: a word of small letters with underscores or hyphens is a definition or theorem of ours, an edit or a stored case,
+# and elsewhere than in the list of theorems it may be an item or a field of the code
 {
     grep -rhoE '^ *((pattern|unfoldable|abbrev|pub) )*[a-z0-9]+([-_][a-z0-9]+)+( \{[^}]*\})? :' crates --include='*.antt' | sed -E 's/^ *((pattern|unfoldable|abbrev|pub) )*//; s/( \{[^}]*\})? :$//'
-    grep -rhoE '\b(fn|mod) [a-z0-9_]+|\b[a-z0-9_]+:' crates --include='*.rt' | sed -E 's/^(fn|mod) //; s/:$//'
     sed 's|.*/||' "$work/there"
-} | sort -u >"$work/names"
-is_shown() { grep -qxF -- "$1" "$work/names" || [ -f "cases/$1.text" ]; }
+} | sort -u >"$work/theorems"
+grep -rhoE '\b(fn|mod) [a-z0-9_]+|\b[a-z0-9_]+:' crates --include='*.rt' | sed -E 's/^(fn|mod) //; s/:$//' | sort -u >"$work/items"
+is_shown() { # DOCUMENT NAME
+    grep -qxF -- "$2" "$work/theorems" || [ -f "cases/$2.text" ] && return
+    [ "$1" != docs/theorems.md ] && grep -qxF -- "$2" "$work/items"
+}
 for document in README.md docs/*.md; do
     [ "$document" != docs/PORT.md ] || continue
     while read -r name; do
-        is "$document names $name, which nothing shows" is_shown "$name"
+        is "$document names $name, which nothing shows" is_shown "$document" "$name"
     done < <(quoted <"$document" | grep -xE '[a-z0-9]+([-_][a-z0-9]+)+' | sort -u)
 done
 
