@@ -88,7 +88,7 @@ for document in README.md docs/*.md; do
     done < <(quoted <"$document" | sed 's|^\./||; s/ .*//' | grep -E '^(\.ci|agreement|bench|cases|crates|docs|examples|second|tests|tools)/' | grep -v /out/ | sort -u)
 done
 
-# ---- every name: a word of small letters with underscores or hyphens is a definition or theorem of ours, an edit or a stored case,
+# ---- every name: a word of small letters with underscores or hyphens, or with a capital within, is a definition or theorem of ours, an edit or a stored case,
 # and elsewhere than in the list of theorems it may be an item or a field of the code
 {
     grep -rhoE '^ *((pattern|unfoldable|abbrev|pub) )*[a-z0-9]+([-_][a-z0-9]+)+( \{[^}]*\})? :' crates --include='*.antt' | sed -E 's/^ *((pattern|unfoldable|abbrev|pub) )*//; s/( \{[^}]*\})? :$//'
@@ -103,7 +103,7 @@ for document in README.md docs/*.md; do
     [ "$document" != docs/PORT.md ] || continue
     while read -r name; do
         is "$document names $name, which nothing shows" is_shown "$document" "$name"
-    done < <(quoted <"$document" | grep -xE '[a-z0-9]+([-_][a-z0-9]+)+' | sort -u)
+    done < <(quoted <"$document" | grep -xE '[a-z0-9]+([-_][a-z0-9]+)+|[a-z]+[A-Z][A-Za-z0-9]*' | sort -u)
 done
 
 # ---- every item of a crate: what begins with a crate's name and two colons, module by module to the last one
