@@ -2,8 +2,9 @@
 # The documents against the files. Every must-fail edit that the map (docs/proof-map.md, theorems.md and guards.md) or
 # docs/entries.md names is there, and every edit that is there is named in the map or in a table of edits. An edit is named
 # as `crate/name`, or by its bare name in a table that says its crate: those of docs/guards.md, and the last column of the
-# entries. Every path, every theorem and every item of a crate (`crate::item`) that README.md or docs/*.md names is there.
-# And the second program's folders are those of its table, in its order. The last line is 'N passed, M failed'.
+# entries. Every path, every theorem and every item of a crate (`crate::item`) that README.md or docs/*.md names is there, but
+# for two pages that tell of an earlier state. And the second program's folders are those of its table, in its order. The last
+# line is 'N passed, M failed'.
 set -uo pipefail
 export LC_ALL=C
 cd "$(dirname "$0")/.." || exit 1
@@ -11,6 +12,14 @@ source agreement/common
 source tests/common
 
 map=(docs/proof-map.md docs/theorems.md docs/guards.md)
+
+# What names what is there now. docs/PORT.md says what changed when the toolchain did, and docs/DESIGN-PASS.md what today's
+# forms took the place of: both name what stood before, and stay as they are.
+documents=(README.md)
+for document in docs/*.md; do
+    case "$document" in docs/PORT.md | docs/DESIGN-PASS.md) ;; *) documents+=("$document") ;; esac
+done
+
 work=$(mktemp -d) || exit 1
 trap 'rm -rf "$work"' EXIT
 
@@ -82,7 +91,7 @@ done <"$work/there"
 # ---- every path: the first word between backticks, if its first folder is one of ours, but for what a build leaves in out/; the
 # kind of file may be left out
 is_there() { [ -e "$1" ] || compgen -G "$1.*" >"$work/found"; }
-for document in README.md docs/*.md; do
+for document in "${documents[@]}"; do
     while read -r path; do
         is "$document names $path, which is not there" is_there "$path"
     done < <(quoted <"$document" | sed 's|^\./||; s/ .*//' | grep -E '^(\.ci|agreement|bench|cases|crates|docs|examples|second|tests|tools)/' | grep -v /out/ | sort -u)
@@ -99,8 +108,7 @@ is_shown() { # DOCUMENT NAME
     grep -qxF -- "$2" "$work/theorems" || [ -f "cases/$2.text" ] && return
     [ "$1" != docs/theorems.md ] && grep -qxF -- "$2" "$work/items"
 }
-for document in README.md docs/*.md; do
-    [ "$document" != docs/PORT.md ] || continue
+for document in "${documents[@]}"; do
     while read -r name; do
         is "$document names $name, which nothing shows" is_shown "$document" "$name"
     done < <(quoted <"$document" | grep -xE '[a-z0-9]+([-_][a-z0-9]+)+|[a-z]+[A-Z][A-Za-z0-9]*' | sort -u)
@@ -113,7 +121,7 @@ is_item() {
         grep -rqE "\\b(fn|struct|enum|const|mod) $part\\b" "crates/$crate/src" || return
     done
 }
-for document in README.md docs/*.md; do
+for document in "${documents[@]}"; do
     while read -r name; do
         is "$document names $name, which its crate does not have" is_item "$name"
     done < <(quoted <"$document" | sed 's/(.*//' | grep -xE "($crates)(::[A-Za-z0-9_]+)+" | sort -u)

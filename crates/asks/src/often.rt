@@ -1,78 +1,64 @@
-// A question of a state that is lent, and for the benchmark nothing but questions and nothing but submissions.
+// For the benchmark: nothing but questions of one state, and nothing but submissions.
 ghost use Rattle.std.specs.Prelude.{◌≡◌};
-ghost use Rattle.rules.specs.Question.{question};
 ghost use Rattle.rules.specs.Invariant.{Sound};
 ghost use Rattle.asks.specs.Often.{step_of, varied_by, asked_often};
 
-use crate::{calls, say, states};
+use crate::states;
 use rules::budget::Controller;
 use rules::cost::Bio;
-use rules::refusals::Answer;
+use rules::refusals::{Answer, Refusal};
 
-// Asks of its own copy of the state, which it lends: a run of calls is not measured.
-pub(crate) fn told(c: Controller, bio: Bio) -> Answer
-    requires { Sound c }
-    ensures { result ≡ question bio c }
-{
-    question::ask(&c, bio)
-}
-
-fn step_of(answer: Answer) -> u64
+// Kept (point 4): what stands for an answer here means nothing but to this measurement.
+fn step_of(answer: Result<Answer, Refusal>) -> u64
     ensures { result ≡ step_of answer }
 {
     match answer {
-        Answer::Issued => 8,
-        Answer::Waits => 16,
-        Answer::OnDebt => 32,
-        Answer::Refused(_) => 64,
+        Ok(Answer::Issued) => 8,
+        Ok(Answer::Waits) => 16,
+        Ok(Answer::OnDebt) => 32,
+        Err(_) => 64,
     }
 }
 
 // Each bio hangs on the answer before, so that no two calls are one.
-fn varied(bio: Bio, answer: Answer) -> Bio
+fn varied(bio: Bio, answer: Result<Answer, Refusal>) -> Bio
     ensures { result ≡ varied_by bio answer }
 {
-    let mut next = bio;
-    next.sector = bio.sector ^ step_of(answer);
-    next
+    Bio {
+        sector: bio.sector ^ step_of(answer),
+        ..bio
+    }
 }
 
 // Questions one after the other, of one state.
-fn asked_often(c: Controller, bio: Bio, times: u64) -> Bio
-    requires { Sound c }
-    ensures { result ≡ asked_often times c bio }
+// Kept (point 2): the contract says which questions are asked, and a call by a closure would leave that unsaid.
+fn asked_often(c: &Controller, bio: Bio, times: u64) -> Bio
+    requires { Sound c.now }
+    ensures { result ≡ asked_often times c.now bio }
 {
     let mut next = bio;
-    let mut left = times;
-    while 0 < left {
-        let answer = question::ask(&c, next);
-        next = varied(next, answer);
-        left = left - 1;
+    for _ in 0..times {
+        next = varied(next, question::ask(c, next));
     }
     next
 }
 
-// Submissions one after the other, each to the state that the one before left.
-fn sent_often(c: Controller, bio: Bio, times: u64) -> Bio
+// Submissions by the entry one after the other, each of the state that the one before handed back.
+fn sent_often(mut c: Controller, bio: Bio, times: u64) -> Bio
     requires { Sound c }
 {
-    let mut state = c;
     let mut next = bio;
-    let mut left = times;
-    while 0 < left {
-        let done = submit::submit(state, next);
-        let answer = done.answer;
-        let after = done.state;
-        state = after;
-        next = varied(next, answer);
-        left = left - 1;
+    for _ in 0..times {
+        let done = submit::submit(c, next);
+        next = varied(next, done.answer);
+        c = done.state;
     }
     next
 }
 
-const QUESTIONS: u64 = 20000000;
+pub(crate) const QUESTIONS: u64 = 20000000;
 
-const SUBMISSIONS: u64 = 1000000;
+pub(crate) const SUBMISSIONS: u64 = 1000000;
 
 // A forced read of a page.
 fn read() -> Bio {
@@ -89,27 +75,26 @@ fn read() -> Bio {
 fn in_debt() -> Controller
     ensures { Sound result }
 {
-    calls::submit(states::fresh(), read())
+    submit::submit(states::fresh(), read()).state
 }
 
 // One in which it has repaid that and saved, and the read would be issued.
 fn saved() -> Controller
     ensures { Sound result }
 {
-    calls::tick(in_debt(), 1000000000)
+    let mut lent = [0u32; 32];
+    tick::tick(in_debt(), 1000000000, &mut lent).state
 }
 
-pub(crate) fn issued(rt: &impl Print) {
-    let last = asked_often(saved(), read(), QUESTIONS);
-    say::made(rt, b"issued: ", QUESTIONS, last.sector);
+// The sector at which the last bio would have come.
+pub(crate) fn issued() -> u64 {
+    asked_often(&saved(), read(), QUESTIONS).sector
 }
 
-pub(crate) fn owing(rt: &impl Print) {
-    let last = asked_often(in_debt(), read(), QUESTIONS);
-    say::made(rt, b"owing: ", QUESTIONS, last.sector);
+pub(crate) fn owing() -> u64 {
+    asked_often(&in_debt(), read(), QUESTIONS).sector
 }
 
-pub(crate) fn submissions(rt: &impl Print) {
-    let last = sent_often(in_debt(), read(), SUBMISSIONS);
-    say::made(rt, b"submissions: ", SUBMISSIONS, last.sector);
+pub(crate) fn submissions() -> u64 {
+    sent_often(in_debt(), read(), SUBMISSIONS).sector
 }

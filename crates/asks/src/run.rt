@@ -2,80 +2,49 @@
 ghost use Rattle.rules.specs.Invariant.{Sound};
 
 use crate::draws::Move;
-use crate::often::told;
 use crate::tally::Tally;
-use crate::{calls, draws, states, tally};
+use crate::{draws, states};
 use rules::budget::Controller;
 use rules::cost::Bio;
 
 // How many moves a run has.
 const MOVES: usize = 60000;
 
-// No time comes near this in so many moves.
-const LATEST: u64 = 1152921504606846976;
-
-#[derive(Clone, Copy)]
-struct Played {
-    state: Controller,
-    tally: Tally,
-}
-
-fn later(time: u64, elapsed: u64) -> u64 {
-    if time < LATEST {
-        if elapsed < LATEST {
-            return time + elapsed;
-        }
-    }
-    time
-}
-
-fn sent(c: Controller, bio: Bio, tally: Tally) -> Played
-    requires { Sound c }
-    ensures { Sound result.state }
+fn sent(c: &mut Controller, bio: Bio, tally: &mut Tally)
+    requires { Sound c.old }
+    ensures { Sound c.new }
 {
-    let noticed = tally::noticed(tally, c, bio);
-    let before = told(c, bio);
-    let done = submit::submit(c, bio);
-    let answer = done.answer;
-    let state = done.state;
-    Played {
-        state,
-        tally: tally::counted(noticed, before, answer),
-    }
+    tally.notice(c, bio);
+    let told = question::ask(c, bio);
+    let answered = submit::submit_to(c, bio);
+    tally.count(told, answered);
 }
 
-fn moved(c: Controller, next: Move, tally: Tally) -> Played
-    requires { Sound c }
-    ensures { Sound result.state }
+// Kept (point 7): a move is drawn as a value before it is made.
+fn moved(c: &mut Controller, next: Move, tally: &mut Tally)
+    requires { Sound c.old }
+    ensures { Sound c.new }
 {
     match next {
         Move::Send(bio) => sent(c, bio, tally),
         Move::Tick(elapsed) => {
-            let clock = c.clock;
-            Played {
-                state: calls::tick(c, later(clock.time, elapsed)),
-                tally,
-            }
+            let time = c.clock.time.saturating_add(elapsed);
+            let mut lent = [0u32; 32];
+            let _ = tick::pass(c, time, &mut lent);
         }
-        Move::Plan => Played {
-            state: calls::plan(c),
-            tally,
-        },
+        Move::Plan => {
+            let _ = plan::replan(c);
+        }
     }
 }
 
 pub(crate) fn counts() -> Tally {
     let mut c = states::fresh();
     let mut draw = draws::FIRST;
-    let mut tally = tally::empty();
+    let mut tally = Tally::default();
     for i in 0..MOVES {
         draw = draws::next(draw);
-        let next = draws::drawn(draw, i);
-        let done = moved(c, next, tally);
-        let state = done.state;
-        let counted = done.tally;
-        c = state;
-        tally = counted;
+        moved(&mut c, draws::drawn(draw, i), &mut tally);
     }
     tally
 }

@@ -38,6 +38,5 @@ fn slow_writes() -> Rates {
 pub(crate) fn fresh() -> Controller
     ensures { Sound result }
 {
-    let done = controller::start::start(four_leaves(), slow_writes(), 0);
-    done.state
+    controller::start::start(four_leaves(), slow_writes(), 0).state
 }

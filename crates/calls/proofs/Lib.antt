@@ -1,4 +1,2 @@
 pub mod Answered
 pub mod Running
-pub mod Ticking
-pub mod Waking

@@ -1,295 +1,156 @@
 // The records after start: a bio, a tick, a plan, a vrate, a weight. Each is one call on the controller and the lines of its
-// answer; a refused one changes nothing, and the replay goes on. The state goes from call to call in one function,
-// since each function that it is handed through copies it.
+// answer; a refused one changes nothing, and the replay goes on. The state is lent to each call, which changes it where it
+// stands: to copy it takes longer than most calls.
 #![tactic(auto)]
 
 ghost use Rattle.std.specs.Prelude.{◌≡◌, ◌≤◌, length};
-ghost use Rattle.rules.specs.Numbers.{line_room, shares_room};
+ghost use Rattle.rules.specs.Numbers.{line_room, shares_room, waiting_most};
 ghost use Rattle.rules.specs.Replay.{tick_lines, next_place};
-ghost use Rattle.rules.specs.Chunks.{call_of, is_call, is_running, runs as runs_of, run_from};
+ghost use Rattle.rules.specs.Chunks.{call_of, runs as runs_of, run_from};
+ghost use Rattle.rules.specs.Entries.{set_by};
 ghost use Rattle.rules.specs.Buffers.{Written};
 ghost use Rattle.rules.specs.Invariant.{Sound};
-ghost use Rattle.calls.specs.Calls.{CanPrint, plan_lines_of, RanAs};
+ghost use Rattle.calls.specs.Calls.{CanPrint, plan_lines_of, Answers, RanAs};
 
-use controller::shares::base_anew;
-use controller::start::{vrate_verdict, with_rate};
-use leaf::tick::{released, settle};
+use controller::start::pace;
+use controller::weights::reweigh;
 use rules::budget::Controller;
-use rules::refusals::{Count, Refusal, Verdict};
+use rules::refusals::Refusal;
 use rules::replay::{Call, Phase, Ran, Setting};
-use rules::trace::{Read, Record};
-use sets::{insert, lowest, remove};
-use submit::{Queueing, Shares, seen};
-use tick::clock;
-use tree::weights;
+use rules::trace::{Found, Record};
 
 const WAITING_MOST: usize = 504;
 
 // 504 releases of 13 bytes: the most that one record prints.
 pub const LINE_ROOM: usize = 6552;
 
-fn wide(x: u32) -> u64
-    ensures { result ≡ x }
-{
-    x as u64
-}
-
-// The call that is asked of the controller by what was read, or none.
-fn call_of(read: Read) -> Call
+// The call that is asked of the controller by what was read, if it is one.
+// Kept (point 4): both types are the rules', a crate with no code that decides, so no conversion of theirs can stand here.
+#[tactic(auto, unfolding(rules::specs::Chunks::call_of, rules::specs::Chunks::call_by))]
+fn call_of(read: Result<Option<Found>, Refusal>) -> Option<Call>
     ensures { result ≡ call_of read }
 {
-    match read {
-        Read::Found(r, _) => match r {
-            Record::Node(_, _) => Call::None,
-            Record::Model(_) => Call::None,
-            Record::Start(_) => Call::None,
-            Record::Bio(bio) => Call::Bio(bio),
-            Record::Tick(time) => Call::Tick(time),
-            Record::Plan => Call::Plan,
-            Record::Vrate(v) => Call::Set(Setting::Vrate(v)),
-            Record::Weight(node, weight) => Call::Set(Setting::Weight(node, weight)),
-        },
-        Read::End => Call::None,
-        Read::Refused(_) => Call::None,
-    }
-}
-
-fn is_call(call: Call) -> bool
-    ensures { result ≡ is_call call }
-{
-    match call {
-        Call::Bio(_) => true,
-        Call::Tick(_) => true,
-        Call::Plan => true,
-        Call::Set(_) => true,
-        Call::None => false,
-    }
-}
-
-fn is_running(phase: Phase) -> bool
-    ensures { result ≡ is_running phase }
-{
-    match phase {
-        Phase::Setup => false,
-        Phase::Priced => false,
-        Phase::Running => true,
-        Phase::Stopped => false,
+    let Ok(Some(found)) = read else {
+        return None;
+    };
+    match found.item {
+        Record::Node(_, _) | Record::Model(_) | Record::Start(_) => None,
+        Record::Bio(bio) => Some(Call::Bio(bio)),
+        Record::Tick(time) => Some(Call::Tick(time)),
+        Record::Plan => Some(Call::Plan),
+        Record::Vrate(v) => Some(Call::Set(Setting::Vrate(v))),
+        Record::Weight(node, weight) => Some(Call::Set(Setting::Weight(node, weight))),
     }
 }
 
 // Is what was read a call in its phase?
-pub fn runs(phase: Phase, read: Read) -> bool
+#[tactic(auto, unfolding(rules::specs::Chunks::runs, rules::specs::Chunks::is_call))]
+pub fn runs(phase: Phase, read: Result<Option<Found>, Refusal>) -> bool
     ensures { result ≡ runs_of phase read }
 {
-    is_running(phase) & is_call(call_of(read))
+    matches!(phase, Phase::Running) && call_of(read).is_some()
 }
 
 // Where the next record begins.
-pub fn next_place(read: Read, place: usize) -> usize
+// Kept (point 4): two arms say it as plainly as `ok`, `flatten` and `map_or` in a row.
+pub fn next_place(read: Result<Option<Found>, Refusal>, place: usize) -> usize
     ensures { result ≡ next_place read place }
 {
     match read {
-        Read::Found(_, next) => next,
-        Read::End => place,
-        Read::Refused(_) => place,
+        Ok(Some(found)) => found.next,
+        Ok(None) | Err(_) => place,
     }
 }
 
 // What a tick prints: the ids that it released.
-fn put_ticked(answer: Count, ids: &[u32], out: &mut [u8]) -> usize
+// Kept (points 2 and 4): the contract states each byte of a line, which a formatter would not; and one function for all answers
+// would take what is given by a closure that holds the buffer which the refusal's line needs.
+#[tactic(auto, unfolding(rules::specs::Replay::tick_lines))]
+fn put_ticked(answer: Result<usize, Refusal>, ids: &[u32], out: &mut [u8]) -> usize
     requires { CanPrint answer (length ids.now) × (line_room ≤ length out.old) }
     ensures { Written (tick_lines answer ids.now) result out.old out.new }
 {
     match answer {
-        Count::Released(released) => lines::put_releases(ids, released, out),
-        Count::Refused(x) => lines::put_refusal(x, out),
+        Ok(released) => lines::put_releases(&ids[..released], out),
+        Err(x) => lines::put_refusal(x, out),
     }
 }
 
 // What a plan prints: each active leaf with its share.
-fn put_planned(answer: Verdict, active: u64, shares: &[u32; 64], out: &mut [u8]) -> usize
+#[tactic(auto, unfolding(crate::specs::Calls::plan_lines_of))]
+fn put_planned(
+    answer: Result<(), Refusal>,
+    active: u64,
+    shares: &[u32; 64],
+    out: &mut [u8],
+) -> usize
     requires { shares_room ≤ length out.old }
     ensures { Written (plan_lines_of answer active shares.now) result out.old out.new }
 {
     match answer {
-        Verdict::Accepted => lines::put_shares(active, shares, out),
-        Verdict::Refused(x) => lines::put_refusal(x, out),
+        Ok(()) => lines::put_shares(active, shares, out),
+        Err(x) => lines::put_refusal(x, out),
+    }
+}
+
+// What is set by a call that charges nothing.
+// Kept (point 7): as `answer`.
+#[tactic(auto, unfolding(rules::specs::Entries::set_by))]
+fn set(c: &mut Controller, setting: Setting) -> Result<(), Refusal>
+    requires { Sound c.old }
+    ensures { (result ≡ (set_by setting c.old).answer) × (c.new ≡ (set_by setting c.old).state) }
+{
+    match setting {
+        Setting::Vrate(v) => pace(c, v),
+        Setting::Weight(node, weight) => reweigh(c, node, weight),
+    }
+}
+
+// One call and its lines. `ids` is where a tick puts what it releases: nothing is read of it but what the tick at hand wrote.
+// Kept (point 7): a call is read from the trace as a value, and no caller has it as a closure.
+fn answer(c: &mut Controller, call: Call, ids: &mut [u32], out: &mut [u8]) -> usize
+    requires { Sound c.old × (length ids.old ≡ waiting_most) × (line_room ≤ length out.old) }
+    ensures { Answers call c.old result out.old out.new c.new }
+{
+    match call {
+        Call::Bio(bio) => {
+            let answer = submit::submit_to(c, bio);
+            lines::put_answer(answer, bio.id, out)
+        }
+        Call::Tick(time) => {
+            let answer = tick::pass(c, time, ids);
+            put_ticked(answer, ids, out)
+        }
+        Call::Plan => {
+            let answer = plan::replan(c);
+            put_planned(answer, c.active, &c.shares, out)
+        }
+        Call::Set(setting) => {
+            let answer = set(c, setting);
+            lines::put_verdict(answer, out)
+        }
     }
 }
 
 // Runs at most `most` calls in a row, from a place of the trace on, while the line buffer has room for any call's lines.
-#[tactic(auto, using(submit::proofs::Decisions::place_inside))]
+// Kept (point 6): there is no heap, so the caller lends the buffer, and `count` is how much of it is written.
 pub fn run(mut c: Controller, trace: &[u8], place: usize, most: usize, out: &mut [u8]) -> Ran
     requires { Sound c }
     ensures { RanAs (run_from most trace.now (length out.old) place c) result out.old out.new }
 {
-    // Where a tick puts what it releases. Nothing is read of it but what the tick at hand wrote, so one serves all ticks.
     let mut ids = [0u32; WAITING_MOST];
     let mut at = place;
     let mut count: usize = 0;
-    let mut left = most;
-    while (0 < left) & (LINE_ROOM <= out.len() - count) {
-        let here = at;
-        let read = trace::reader::read_from(trace, here);
-        let call = call_of(read);
-        at = next_place(read, here);
-        left -= 1;
-        match call {
-            Call::None => {
-                return Ran {
-                    count,
-                    place: here,
-                    state: c,
-                };
-            }
-            Call::Bio(bio) => {
-                // As in `submit`, but that nothing is handed over: a row changes where it stands, and the queue that the bio
-                // joins; where shares change, those of all are put in with their rows.
-                let node = submit::place_of(bio);
-                let model = c.model;
-                let share = c.shares[node];
-                let row = c.rows[node];
-                let waiting = c.queues[node].len;
-                let view = seen(c.leaves, c.active, c.donors, model, share, row, waiting);
-                let mut decided = submit::decide(bio, node, view);
-                // "1. An inactive leaf becomes active .."
-                let first = decided.shares;
-                if let Shares::Activate = first {
-                    let tree = c.tree;
-                    let rows = c.rows;
-                    let active = insert(c.active, node);
-                    let woken = base_anew(tree, active, rows, &c.shares);
-                    let shares = woken.shares;
-                    let rows = woken.rows;
-                    c.active = active;
-                    c.donors = 0;
-                    c.shares = shares;
-                    c.rows = rows;
-                    let share = c.shares[node];
-                    let row = c.rows[node];
-                    let waiting = c.queues[node].len;
-                    let view = seen(c.leaves, c.active, c.donors, model, share, row, waiting);
-                    decided = submit::decide(bio, node, view);
-                }
-                let next = decided.row;
-                c.rows[node] = next;
-                let queueing = decided.queue;
-                if let Queueing::Joins(cost) = queueing {
-                    let queue = c.queues[node];
-                    let longer = submit::joined(bio.id, cost, queue);
-                    c.queues[node] = longer;
-                }
-                // "4. .. the donation ends: all return to base shares."
-                let last = decided.shares;
-                if let Shares::Return = last {
-                    let tree = c.tree;
-                    let rows = c.rows;
-                    let ended = base_anew(tree, c.active, rows, &c.shares);
-                    let shares = ended.shares;
-                    let rows = ended.rows;
-                    c.donors = 0;
-                    c.shares = shares;
-                    c.rows = rows;
-                }
-                let answer = decided.answer;
-                count += lines::put_answer(answer, bio.id, &mut out[count..]);
-            }
-            Call::Tick(time) => {
-                // The leaves' turns change the state where it stands, as in `tick`. There is a place for each bio that can
-                // wait, so only the clock can refuse.
-                let clock = c.clock;
-                let verdict = clock::verdict(clock, time);
-                let mut answer = Count::Released(0);
-                match verdict {
-                    Verdict::Accepted => {
-                        let gain = clock::growth(clock, time);
-                        let mut done: usize = 0;
-                        let mut turns = c.active;
-                        while 0 < turns {
-                            let n = lowest(turns);
-                            let share = wide(c.shares[n]);
-                            let row = c.rows[n];
-                            let settled = settle(gain, share, row, c.queues[n].len);
-                            let row = settled.row;
-                            if settled.due {
-                                let queue = c.queues[n];
-                                let rest = released(share, row, queue, &mut ids[done..]);
-                                let row = rest.row;
-                                c.rows[n] = row;
-                                c.queues[n].head = rest.head;
-                                c.queues[n].len = rest.len;
-                                done += rest.count;
-                            } else {
-                                c.rows[n] = row;
-                            }
-                            turns = remove(turns, n);
-                        }
-                        let after = clock::advanced(time, clock, gain);
-                        c.clock = after;
-                        answer = Count::Released(done);
-                    }
-                    Verdict::Refused(x) => {
-                        answer = Count::Refused(x);
-                    }
-                }
-                count += put_ticked(answer, &ids, &mut out[count..]);
-            }
-            Call::Plan => {
-                // The plan is shown parts of the state, and what it changes is put in where the state stands, as in `plan`.
-                let clock = c.clock;
-                let mut answer = Verdict::Refused(Refusal::NothingPassed);
-                if plan::is_due(clock) {
-                    let mut waiting = [0u8; 64];
-                    for n in 0..64usize {
-                        waiting[n] = c.queues[n].len;
-                    }
-                    let tree = c.tree;
-                    let rows = c.rows;
-                    let since = clock.since;
-                    let next = plan::parts(tree, since, c.active, &c.shares, rows, &waiting);
-                    let again = plan::restarted(clock);
-                    let shares = next.shares;
-                    let rows = next.rows;
-                    c.clock = again;
-                    c.active = next.active;
-                    c.donors = next.donors;
-                    c.shares = shares;
-                    c.rows = rows;
-                    answer = Verdict::Accepted;
-                }
-                count += put_planned(answer, c.active, &c.shares, &mut out[count..]);
-            }
-            Call::Set(setting) => {
-                let mut answer = Verdict::Accepted;
-                match setting {
-                    Setting::Vrate(v) => {
-                        answer = vrate_verdict(v);
-                        if let Verdict::Accepted = answer {
-                            let clock = c.clock;
-                            let paced = with_rate(clock, v);
-                            c.clock = paced;
-                        }
-                    }
-                    Setting::Weight(node, weight) => {
-                        // The tree moves, and with it the shares of all; their rows follow, as in `weight`.
-                        let tree = c.tree;
-                        answer = weights::verdict(tree, node, weight);
-                        if let Verdict::Accepted = answer {
-                            let next = weights::with_weight(tree, node, weight);
-                            let rows = c.rows;
-                            let anew = base_anew(next, c.active, rows, &c.shares);
-                            let shares = anew.shares;
-                            let rows = anew.rows;
-                            c.tree = next;
-                            c.donors = 0;
-                            c.shares = shares;
-                            c.rows = rows;
-                        }
-                    }
-                }
-                count += lines::put_verdict(answer, &mut out[count..]);
-            }
+    for _ in 0..most {
+        if out.len() - count < LINE_ROOM {
+            break;
         }
+        let read = trace::reader::read_from(trace, at);
+        let Some(call) = call_of(read) else {
+            break;
+        };
+        count += answer(&mut c, call, &mut ids, &mut out[count..]);
+        at = next_place(read, at);
     }
     Ran {
         count,

@@ -1,14 +1,14 @@
 -- What a side holds: the places are inside its buffer, and no sum of them passes 64 bits. And what a round does with it.
 -- Assumes nothing.
-use Rattle.std.specs.Prelude.{◌≡◌, ℕ, ◌+◌, ◌^◌, ◌≤◌, Bool, true, false, not, ◌&&◌, ◌||◌, List, length, take, ◌==◌}
+use Rattle.std.specs.Prelude.{◌≡◌, ℕ, ◌+◌, ◌^◌, ◌≤◌, Bool, true, false, cond, not, ◌&&◌, List, length, take, ◌==◌, Option, Some, None, Result, Ok, Err, IsOk, IsErr, ⊤}
+use Rattle.std.specs.declared.io.Error.{Error as IoError}
 use Rattle.rules.specs.Refusals.{number}
-use Rattle.comparison.specs.Compare.{extent_at, records_end, error_by}
+use Rattle.trace.specs.Extents.{extent_at}
+use Rattle.comparison.specs.Compare.{Extent, Fault, records_end, error_by}
 use Rattle.comparison.specs.declared.Side.{Side}
-use Rattle.comparison.specs.declared.Extent.{Extent}
-use Rattle.comparison.specs.declared.Extent.TheVariants.{Whole, End, Refused}
+use Rattle.compare.specs.declared.Failure.{Failure}
+use Rattle.compare.specs.declared.Failure.TheVariants.{Erred}
 use Rattle.compare.specs.declared.side.Held.{Held}
-use Rattle.compare.specs.declared.errors.Scan.{Scan}
-use Rattle.compare.specs.declared.errors.Walked.{Walked}
 
 pub record Inside (h : Held) (room : ℕ) : Type 0 where
   pub passed : h.place ≤ h.filled
@@ -20,42 +20,48 @@ pub record Inside (h : Held) (room : ℕ) : Type 0 where
 abbrev pub part : Held → List ℕ → List ℕ
 part h buf = take h.filled buf
 
--- a part that was read anew begins at the first byte that was not passed
-pub record Refilled (h r : Held) (room : ℕ) : Type 0 where
-  pub inside : Inside r room
-  pub begins : r.failed ≡ false → r.base ≡ h.base + h.place
-  pub anew : r.failed ≡ false → r.place ≡ 0
+-- a part that was read anew begins at the first byte that was not passed; where it cannot be read, what is held stays
+pub record Refilled (h : Held) (r : Result ⊤ IoError) (t : Held) (room : ℕ) : Type 0 where
+  pub inside : Inside t room
+  pub begins : IsOk r → t.base ≡ h.base + h.place
+  pub anew : IsOk r → t.place ≡ 0
+  pub stays : IsErr r → t ≡ h
 
 -- a record that is not whole may become so with more bytes
 abbrev pub is_cut : Extent → Bool
-is_cut (Whole kind next) = false
-is_cut End = true
-is_cut (Refused x) = number x == 17
+is_cut (Ok (Some w)) = false
+is_cut (Ok None) = true
+is_cut (Err x) = number x == 17
 
 abbrev pub wants_bytes : Extent → Bool → Bool
 wants_bytes e last = is_cut e && not last
 
+abbrev pub wants_more : Held → List ℕ → Bool
+wants_more h buf = wants_bytes (extent_at (part h buf) h.place) h.last
+
 -- the same part, passed up to another place
 abbrev pub passed_to : ℕ → Held → Held
-passed_to place h = record { base = h.base; filled = h.filled; place = place; last = h.last; failed = h.failed }
+passed_to place h = record { base = h.base; filled = h.filled; place = place; last = h.last }
+
+-- what stands at a place, unless more bytes could make it whole
+abbrev pub settled_by : Extent → Bool → Option Extent
+settled_by e last = cond (wants_bytes e last) None (Some e)
 
 -- its whole records are passed, and it is over unless more bytes could make the next one whole
-pub record Scans (h : Held) (buf : List ℕ) (s : Scan) : Type 0 where
-  pub held : s.held ≡ passed_to (records_end (part h buf) h.place) h
-  pub inside : Inside s.held (length buf)
-  pub found : s.found ≡ extent_at (part h buf) s.held.place
-  pub over : s.over ≡ not (wants_bytes s.found h.last)
+pub record Scans (h : Held) (buf : List ℕ) (found : Option Extent) (t : Held) : Type 0 where
+  pub held : t ≡ passed_to (records_end (part h buf) h.place) h
+  pub inside : Inside t (length buf)
+  pub found_there : found ≡ settled_by (extent_at (part h buf) t.place) h.last
 
 -- one round of a walk over one side: it cannot be read, or what was read anew is scanned
-pub data OneScan (s r : Scan) (buf : List ℕ) : Type 0 where
-  unread : Inside r.held (length buf) → r.held.failed ≡ true → OneScan s r buf
-  scanned : (h : Held) → Refilled s.held h (length buf) → h.failed ≡ false → Scans h buf r → OneScan s r buf
+pub data OneScan (s : Held) (r : Result (Option Extent) IoError) (t : Held) (buf : List ℕ) : Type 0 where
+  unread : Inside t (length buf) → IsErr r → t ≡ s → OneScan s r t buf
+  scanned : (h : Held) (done : ⊤) (found : Option Extent) → Refilled s (Ok done) h (length buf) → Scans h buf found t → r ≡ Ok found → OneScan s r t buf
 
 -- how a walk over one side ended: its error by what stands where its whole records end, and its length where it has none
-abbrev pub walked_as : Side → Scan → Walked
-walked_as side s =
-    record {
-      error = error_by side s.found (s.held.base + s.held.place);
-      length = s.held.base + s.held.place;
-      failed = s.held.failed || not s.over;
-    }
+abbrev pub length_unless : Fault → ℕ → Result ℕ Failure
+length_unless (Ok none) length = Ok length
+length_unless (Err e) length = Err (Erred e)
+
+abbrev pub walked_as : Side → Extent → ℕ → Result ℕ Failure
+walked_as side found end = length_unless (error_by side found end) end

@@ -4,40 +4,21 @@
 // What is proved of each round (`specs/Rounds`): which lines stand at the front of the line buffer, that the walk goes on only
 // where the writes took as many bytes as these lines have, and where it then stands. No contract can say which bytes a write
 // takes or a read brings.
-ghost use Rattle.std.specs.Prelude.{◌≡◌, ◌≤◌, true, length};
+ghost use Rattle.std.specs.Prelude.{◌≡◌, ◌^◌, ◌≤◌, ◌<◌, length};
 ghost use Rattle.rules.specs.Buffers.{Written};
 ghost use Rattle.listing.specs.Listing.{closing_room};
-ghost use Rattle.compare.specs.Parts.{Inside};
-ghost use Rattle.compare.specs.Rounds.{Stands, ended_by, begins_of, reach_of, reached_by, wants_more, step_held, Told, FirstMore, SecondMore, Onward, OneRound, Fresh, is_unchanged, first_at, second_at, closing_held, outcome_of, Closes};
+ghost use Rattle.compare.specs.Rounds.{Stands, begins_of, reach_of, places_of, passed_by, step_held, Told, Onward, OneRound, Fresh, is_unchanged, closing_held, Closes};
 
-use crate::said::progress;
-use crate::side::{Held, begun, passed, refill, wants_bytes};
+use crate::Failure;
+use crate::side::Held;
+use crate::watch::Watch;
 use comparison::answer::likeness_by;
 use comparison::both::{is_pair, step};
-use comparison::one::extent;
-use comparison::{Likeness, Step};
-use host::descriptor::{Descriptor, TRIES, write};
-use host::said::no_progress;
-use listing::{Begins, Left, Listed, Reach, close, list};
-use std::io::{Stderr, Write};
+use comparison::{Error, Likeness, Reach, Side, Sides, Step};
+use host::descriptor::{TRIES, write};
+use listing::{Listed, close, list};
+use std::io::Write;
 use std::os::unix::fs::FileExt;
-
-// Why a walk is over: both sides are at an end of theirs, or something failed.
-#[derive(Clone, Copy)]
-pub(crate) enum End {
-    Over,
-    FirstUnread,
-    SecondUnread,
-    Unwritten,
-}
-
-// Whether a person watches, and how many bytes the first walk read.
-#[derive(Clone, Copy)]
-pub(crate) struct Watch {
-    pub err: Stderr,
-    pub watched: bool,
-    pub seen: u64,
-}
 
 // Where a walk stands: what is held of each side, how many pairs are passed, whether all of them were the same, and how many
 // bytes the writes of the last round took.
@@ -48,341 +29,238 @@ pub(crate) struct Standing {
     pub number: usize,
     pub alike: bool,
     pub put: usize,
-    pub going: bool,
-    pub end: End,
 }
 
-fn ended(s: Standing, end: End) -> Standing
-    ensures { result ≡ ended_by end s }
-{
-    let first = s.first;
-    let second = s.second;
-    Standing {
-        first,
-        second,
-        number: s.number,
-        alike: s.alike,
-        put: s.put,
-        going: false,
-        end,
+impl Standing {
+    // Nothing is read yet.
+    fn fresh() -> Standing
+        ensures { Fresh result }
+    {
+        Standing {
+            first: Held::default(),
+            second: Held::default(),
+            number: 0,
+            alike: true,
+            put: 0,
+        }
     }
-}
 
-fn begins(s: Standing) -> Begins
-    ensures { result ≡ begins_of s }
-{
-    let first = s.first;
-    let second = s.second;
-    Begins {
-        first: first.base as u64,
-        second: second.base as u64,
+    // Where the parts that are held begin in their traces.
+    fn begins(&self) -> Sides<u64>
+        ensures { result ≡ begins_of self.now }
+    {
+        Sides {
+            first: self.first.base as u64,
+            second: self.second.base as u64,
+        }
     }
-}
 
-fn reach(s: Standing) -> Reach
-    ensures { result ≡ reach_of s }
-{
-    let first = s.first;
-    let second = s.second;
-    Reach {
-        number: s.number,
-        first: first.place,
-        second: second.place,
-        alike: s.alike,
+    fn reach(&self) -> Reach
+        ensures { result ≡ reach_of self.now }
+    {
+        Reach {
+            number: self.number,
+            first: self.first.place,
+            second: self.second.place,
+            alike: self.alike,
+        }
+    }
+
+    // Where each side is in its trace.
+    fn places(&self) -> Sides<usize>
+        requires { ((places_of self.now).first < 2 ^ 64) × ((places_of self.now).second < 2 ^ 64) }
+        ensures { result ≡ places_of self.now }
+    {
+        Sides {
+            first: self.first.at(),
+            second: self.second.at(),
+        }
+    }
+
+    // The pairs up to here are passed.
+    fn pass(&mut self, r: Reach)
+        ensures { self.new ≡ passed_by r self.old }
+    {
+        self.first.place = r.first;
+        self.second.place = r.second;
+        self.number = r.number;
+        self.alike = r.alike;
+    }
+
+    // How many bytes this walk has read so far.
+    fn read(&self) -> u64 {
+        (self.first.base as u64).wrapping_add(self.second.base as u64)
     }
 }
 
 // The lines of what is held.
-fn told(s: Standing, a: &[u8], b: &[u8], out: &mut [u8]) -> Listed
-    requires { Stands s (length a.now) (length b.now) }
-    ensures { Told s a.now b.now result out.old out.new }
+fn told(s: &Standing, a: &[u8], b: &[u8], out: &mut [u8]) -> Listed
+    requires { Stands s.now (length a.now) (length b.now) }
+    ensures { Told s.now a.now b.now result out.old out.new }
 {
-    let first = s.first;
-    let second = s.second;
-    let here = first.filled;
-    let there = second.filled;
-    list(begins(s), &a[..here], &b[..there], reach(s), out)
-}
-
-// The pairs that were passed, and how many bytes of their lines were taken.
-fn reached(s: Standing, r: Reach, put: usize) -> Standing
-    ensures { result ≡ reached_by r put s }
-{
-    let first = s.first;
-    let second = s.second;
-    Standing {
-        first: passed(first, r.first),
-        second: passed(second, r.second),
-        number: r.number,
-        alike: r.alike,
-        put,
-        going: true,
-        end: End::Over,
-    }
-}
-
-fn more_first<F: FileExt>(s: Standing, of_first: &mut Descriptor<F>, a: &mut [u8]) -> Standing
-    requires { Inside s.first (length a.old) }
-    ensures { FirstMore s result (length a.new) }
-{
-    let before = s.first;
-    let first = refill(before, of_first, a);
-    if first.failed {
-        return ended(s, End::FirstUnread);
-    }
-    let second = s.second;
-    Standing {
-        first,
-        second,
-        number: s.number,
-        alike: s.alike,
-        put: s.put,
-        going: true,
-        end: End::Over,
-    }
-}
-
-fn more_second<F: FileExt>(s: Standing, of_second: &mut Descriptor<F>, b: &mut [u8]) -> Standing
-    requires { Inside s.second (length b.old) }
-    ensures { SecondMore s result (length b.new) }
-{
-    let before = s.second;
-    let second = refill(before, of_second, b);
-    if second.failed {
-        return ended(s, End::SecondUnread);
-    }
-    let first = s.first;
-    Standing {
-        first,
-        second,
-        number: s.number,
-        alike: s.alike,
-        put: s.put,
-        going: true,
-        end: End::Over,
-    }
-}
-
-fn wants(h: Held, buf: &[u8]) -> bool
-    requires { Inside h (length buf.now) }
-    ensures { result ≡ wants_more h buf.now }
-{
-    let filled = h.filled;
-    wants_bytes(extent(&buf[..filled], h.place), h.last)
+    let here = &a[..s.first.filled];
+    let there = &b[..s.second.filled];
+    list(s.begins(), here, there, s.reach(), out)
 }
 
 // What stands at both places.
-fn step_at(s: Standing, a: &[u8], b: &[u8]) -> Step
-    requires { Stands s (length a.now) (length b.now) }
-    ensures { result ≡ step_held s a.now b.now }
+fn step_at(s: &Standing, a: &[u8], b: &[u8]) -> Result<Step, Error>
+    requires { Stands s.now (length a.now) (length b.now) }
+    ensures { result ≡ step_held s.now a.now b.now }
 {
-    let first = s.first;
-    let second = s.second;
-    let here = first.filled;
-    let there = second.filled;
-    step(&a[..here], first.place, &b[..there], second.place)
+    let here = &a[..s.first.filled];
+    let there = &b[..s.second.filled];
+    step(here, s.first.place, there, s.second.place)
 }
 
-// More of a side whose next record is not whole; where both have one there was no room for a line, and elsewhere it is over.
+// Kept (point 7): the side that wants bytes decides what is held, which file and which buffer go on, so a closure for each
+// would be no plainer.
+// More of a side whose next record is not whole; where both have one there was no room for a line, and elsewhere the walk is
+// over. Is it?
+#[tactic(auto, using(crate::proofs::Walk::first_stays, crate::proofs::Walk::second_stays))]
 fn onward<F: FileExt>(
-    s: Standing,
-    of_first: &mut Descriptor<F>,
-    of_second: &mut Descriptor<F>,
+    s: &mut Standing,
+    files: Sides<&F>,
     a: &mut [u8],
     b: &mut [u8],
-) -> Standing
-    requires { Stands s (length a.old) (length b.old) × (s.going ≡ true) }
-    ensures { Onward s a.old b.old result a.new b.new }
+) -> Result<bool, Failure>
+    requires { Stands s.old (length a.old) (length b.old) }
+    ensures { Onward s.old a.old b.old result s.new a.new b.new }
 {
-    let first = s.first;
-    let second = s.second;
-    if wants(first, a) {
-        return more_first(s, of_first, a);
+    if s.first.wants(a) {
+        s.first
+            .refill(files.first, a)
+            .map_err(|why| Failure::Unread(Side::First, why))?;
+        return Ok(false);
     }
-    if wants(second, b) {
-        return more_second(s, of_second, b);
+    if s.second.wants(b) {
+        s.second
+            .refill(files.second, b)
+            .map_err(|why| Failure::Unread(Side::Second, why))?;
+        return Ok(false);
     }
-    if is_pair(step_at(s, a, b)) {
-        return s;
-    }
-    ended(s, End::Over)
+    Ok(!is_pair(step_at(s, a, b)))
 }
 
-// How many bytes were read so far, with those of the first walk: what a person at a terminal is shown.
-fn total(s: Standing, seen: u64) -> u64 {
-    let first = s.first;
-    let second = s.second;
-    let both = std::num::wrapping_add_u64(first.base as u64, second.base as u64);
-    std::num::wrapping_add_u64(seen, both)
-}
-
-// Progress is cleared from a terminal before lines are written.
-fn cleared(count: usize, s: Standing, watch: Watch) {
-    if watch.watched & (0 < count) {
-        no_progress(watch.err, total(s, watch.seen));
-    }
-}
-
-// One round: the lines of what is held are written, and more is read.
+// One round: the lines of what is held are written, and more is read. Is the walk over then?
+// Kept (point 5): the buffers stay parameters, so `Stands` is asked of a walk with its two, since the clauses speak of each by
+// itself, before and after, and a struct of borrowed slices would have to be lent anew at each call.
 fn round<F: FileExt, W: Write>(
-    s: Standing,
+    s: &mut Standing,
     watch: Watch,
-    of_first: &mut Descriptor<F>,
-    of_second: &mut Descriptor<F>,
-    to: &mut Descriptor<W>,
+    files: Sides<&F>,
+    to: &mut W,
     a: &mut [u8],
     b: &mut [u8],
     out: &mut [u8],
-) -> Standing
-    requires { Stands s (length a.old) (length b.old) }
-    ensures { OneRound s a.old b.old (length out.old) result a.new b.new }
+) -> Result<bool, Failure>
+    requires { Stands s.old (length a.old) (length b.old) }
+    ensures { OneRound s.old a.old b.old (length out.old) result s.new a.new b.new }
 {
+    // Kept (point 6): the lines are the front of an array with their count, since the project has no heap.
     let listed = told(s, a, b, out);
     let count = listed.count;
-    cleared(count, s, watch);
-    let put = write(to, &out[0..count]);
-    let r = listed.reach;
-    let after = reached(s, r, put);
-    if put < count {
-        return ended(after, End::Unwritten);
-    }
-    onward(after, of_first, of_second, a, b)
+    watch.clear_before(count, s.read());
+    let put = write(to, &out[..count]);
+    s.pass(listed.reach);
+    s.put = put.map_err(|short| Failure::Unwritten(short.why))?;
+    onward(s, files, a, b)
 }
 
-fn fresh() -> Standing
-    ensures { Fresh result }
+// Round by round, up to the end of the walk.
+// Kept (point 2): this loop, that of the other walk and that of `replay` were tried as one that is lent the round as a closure.
+// What a round requires of what the closure holds, and what holds of it behind the loop, didn't close.
+fn run<F: FileExt, W: Write>(
+    s: &mut Standing,
+    watch: Watch,
+    files: Sides<&F>,
+    to: &mut W,
+    a: &mut [u8],
+    b: &mut [u8],
+    out: &mut [u8],
+) -> Result<(), Failure>
+    requires { Stands s.old (length a.old) (length b.old) }
+    ensures { Stands s.new (length a.new) (length b.new) }
 {
-    Standing {
-        first: begun(),
-        second: begun(),
-        number: 0,
-        alike: true,
-        put: 0,
-        going: true,
-        end: End::Over,
+    for _ in 0..TRIES {
+        let over = round(s, watch, files, to, a, b, out)?;
+        watch.show(s.read());
+        if over {
+            return Ok(());
+        }
     }
-}
-
-// How many bytes each trace has, by the first walk.
-#[derive(Clone, Copy)]
-pub(crate) struct Lengths {
-    pub first: usize,
-    pub second: usize,
+    Ok(())
 }
 
 // Does the walk end where the first walk did? A trace that was written to meanwhile may end elsewhere, or have an error.
-fn is_unchanged(s: Step, p: usize, q: usize, lengths: Lengths) -> bool
-    ensures { result ≡ is_unchanged s p q lengths }
+fn is_unchanged(at: Result<Step, Error>, places: Sides<usize>, lengths: Sides<usize>) -> bool
+    ensures { result ≡ is_unchanged at places lengths }
 {
-    if lengths.first < p {
+    if lengths.first < places.first || lengths.second < places.second {
         return false;
     }
-    if lengths.second < q {
-        return false;
-    }
-    match s {
-        Step::Same(_, _) => false,
-        Step::Differs(_, _, _, _) => false,
-        Step::FirstEnds => p == lengths.first,
-        Step::SecondEnds => q == lengths.second,
-        Step::BothEnd => (p == lengths.first) & (q == lengths.second),
-        Step::Refused(_, _) => false,
-    }
-}
-
-// What came of a comparison; a trace that has an error is not compared.
-#[derive(Clone, Copy)]
-pub(crate) enum Outcome {
-    Equal,
-    Other,
-    FirstUnread,
-    SecondUnread,
-    Unwritten,
-    Changed,
-    Erred,
-}
-
-fn outcome_of(likeness: Likeness) -> Outcome
-    ensures { result ≡ outcome_of likeness }
-{
-    match likeness {
-        Likeness::Equal => Outcome::Equal,
-        Likeness::Prefix => Outcome::Other,
-        Likeness::Different => Outcome::Other,
-        Likeness::Untold => Outcome::Changed,
+    match at {
+        Ok(Step::Over(Some(Side::First))) => places.first == lengths.first,
+        Ok(Step::Over(Some(Side::Second))) => places.second == lengths.second,
+        Ok(Step::Over(None)) => places.first == lengths.first && places.second == lengths.second,
+        _ => false,
     }
 }
 
 // The lines that close a walk, with what is left of each trace.
-fn put_closing(at: Step, s: Standing, lengths: Lengths, out: &mut [u8]) -> usize
-    requires { (first_at s ≤ lengths.first) × ((second_at s ≤ lengths.second) × (closing_room ≤ length out.old)) }
-    ensures { Written (closing_held at s lengths) result out.old out.new × (result ≤ closing_room) }
+// Kept (points 4 and 5): no `write!` and no writer, as in `listing`: the contract says which bytes stand in front (`Written`).
+fn put_closing(
+    at: Result<Step, Error>,
+    r: Reach,
+    places: Sides<usize>,
+    lengths: Sides<usize>,
+    out: &mut [u8],
+) -> usize
+    requires { (places.first ≤ lengths.first) × ((places.second ≤ lengths.second) × (closing_room ≤ length out.old)) }
+    ensures { Written (closing_held at r places lengths) result out.old out.new × (result ≤ closing_room) }
 {
-    let first = s.first;
-    let second = s.second;
-    let left = Left {
-        first: (lengths.first - (first.base + first.place)) as u64,
-        second: (lengths.second - (second.base + second.place)) as u64,
+    let left = Sides {
+        first: (lengths.first - places.first) as u64,
+        second: (lengths.second - places.second) as u64,
     };
-    close(at, reach(s), left, out)
+    close(at, r, left, out)
 }
 
 // The end of a walk: its lines, unless a trace changed.
 fn closed<W: Write>(
-    s: Standing,
-    lengths: Lengths,
-    to: &mut Descriptor<W>,
+    s: &Standing,
+    lengths: Sides<usize>,
+    to: &mut W,
     a: &[u8],
     b: &[u8],
     out: &mut [u8],
-) -> Outcome
-    requires { Stands s (length a.now) (length b.now) × (closing_room ≤ length out.old) }
-    ensures { Closes s lengths a.now b.now result }
+) -> Result<Likeness, Failure>
+    requires { Stands s.now (length a.now) (length b.now) × (closing_room ≤ length out.old) }
+    ensures { Closes s.now lengths a.now b.now result }
 {
     let at = step_at(s, a, b);
-    let first = s.first;
-    let second = s.second;
-    let p = first.base + first.place;
-    let q = second.base + second.place;
-    if !is_unchanged(at, p, q, lengths) {
-        return Outcome::Changed;
+    let places = s.places();
+    if !is_unchanged(at, places, lengths) {
+        return Err(Failure::Changed);
     }
-    let count = put_closing(at, s, lengths, out);
-    let put = write(to, &out[0..count]);
-    if put < count {
-        return Outcome::Unwritten;
-    }
-    outcome_of(likeness_by(at, s.alike))
+    let count = put_closing(at, s.reach(), places, lengths, out);
+    write(to, &out[..count]).map_err(|short| Failure::Unwritten(short.why))?;
+    likeness_by(at, s.alike).ok_or(Failure::Changed)
 }
 
 // Both traces from their beginnings on, of which the first walk found no error.
 pub(crate) fn differences<F: FileExt, W: Write>(
-    of_first: &mut Descriptor<F>,
-    of_second: &mut Descriptor<F>,
-    to: &mut Descriptor<W>,
-    lengths: Lengths,
+    files: Sides<&F>,
+    to: &mut W,
+    lengths: Sides<usize>,
     watch: Watch,
-) -> Outcome {
+) -> Result<Likeness, Failure> {
     let mut a = [0u8; 65536];
     let mut b = [0u8; 65536];
     let mut out = [0u8; 65536];
-    let mut s = fresh();
-    let mut rounds = TRIES;
-    while rounds > 0 && s.going {
-        s = round(s, watch, of_first, of_second, to, &mut a, &mut b, &mut out);
-        if watch.watched {
-            progress(watch.err, total(s, watch.seen));
-        }
-        rounds -= 1;
-    }
-    if watch.watched {
-        no_progress(watch.err, total(s, watch.seen));
-    }
-    let end = s.end;
-    match end {
-        End::Over => closed(s, lengths, to, &a, &b, &mut out),
-        End::FirstUnread => Outcome::FirstUnread,
-        End::SecondUnread => Outcome::SecondUnread,
-        End::Unwritten => Outcome::Unwritten,
-    }
+    let mut s = Standing::fresh();
+    let end = run(&mut s, watch, files, to, &mut a, &mut b, &mut out);
+    watch.clear(s.read());
+    end?;
+    closed(&s, lengths, to, &a, &b, &mut out)
 }

@@ -1,111 +1,80 @@
 // The first walk: one side from its beginning to its end, or to the record that is an error. Nothing is printed here.
-ghost use Rattle.std.specs.Prelude.{◌≡◌, ◌+◌, ◌^◌, ◌<◌, length};
+ghost use Rattle.std.specs.Prelude.{◌≡◌, length};
 ghost use Rattle.compare.specs.Parts.{Inside, Scans, OneScan, walked_as};
 
-use crate::said::progress;
-use crate::side::{Held, begun, passed, refill, wants_bytes};
+use crate::Failure;
+use crate::side::{Held, wants_bytes};
+use crate::watch::Watch;
 use comparison::one::{error_by, extent, records_end};
-use comparison::{Error, Extent, Side};
-use host::descriptor::{Descriptor, TRIES};
-use host::said::no_progress;
-use std::io::Stderr;
+use comparison::{Side, Whole};
+use host::descriptor::TRIES;
+use rules::refusals::Refusal;
+use std::io;
 use std::os::unix::fs::FileExt;
 
-// Where a walk over one side stands: what it holds, what stands where its whole records end, and whether that is for good.
-#[derive(Clone, Copy)]
-pub(crate) struct Scan {
-    pub held: Held,
-    pub found: Extent,
-    pub over: bool,
-}
-
-// Passes the whole records that are held.
-fn scanned(h: Held, buf: &[u8]) -> Scan
-    requires { Inside h (length buf.now) }
-    ensures { Scans h buf.now result }
+// Passes the whole records that are held, and answers what stands where they end, unless more bytes could make it whole.
+fn scanned(held: &mut Held, buf: &[u8]) -> Option<Result<Option<Whole>, Refusal>>
+    requires { Inside held.old (length buf.now) }
+    ensures { Scans held.old buf.now result held.new }
 {
-    let filled = h.filled;
-    let part = &buf[..filled];
-    let at = records_end(part, h.place);
-    let found = extent(part, at);
-    Scan {
-        held: passed(h, at),
-        found,
-        over: !wants_bytes(found, h.last),
+    let part = &buf[..held.filled];
+    held.place = records_end(part, held.place);
+    let found = extent(part, held.place);
+    if wants_bytes(found, held.last) {
+        return None;
     }
+    Some(found)
 }
 
 // One round: a part is read, and its whole records are passed.
-fn round<F: FileExt>(s: Scan, file: &mut Descriptor<F>, buf: &mut [u8]) -> Scan
-    requires { Inside s.held (length buf.old) }
-    ensures { OneScan s result buf.new }
+fn round<F: FileExt>(
+    held: &mut Held,
+    file: &F,
+    buf: &mut [u8],
+) -> io::Result<Option<Result<Option<Whole>, Refusal>>>
+    requires { Inside held.old (length buf.old) }
+    ensures { OneScan held.old result held.new buf.new }
 {
-    let before = s.held;
-    let held = refill(before, file, buf);
-    if held.failed {
-        return Scan {
-            held,
-            found: Extent::End,
-            over: true,
-        };
-    }
-    scanned(held, buf)
+    held.refill(file, buf)?;
+    Ok(scanned(held, buf))
 }
 
-// How a walk over one side ended: its error, and its length where it has none.
-#[derive(Clone, Copy)]
-pub(crate) struct Walked {
-    pub error: Error,
-    pub length: usize,
-    pub failed: bool,
-}
-
-fn ended(side: Side, s: Scan) -> Walked
-    requires { s.held.base + s.held.place < 2 ^ 64 }
-    ensures { result ≡ walked_as side s }
+// Round by round, up to where the whole records end.
+// Kept (point 2): this loop, that of the other walk and that of `replay` were tried as one that is lent the round as a closure.
+// What a round requires of what the closure holds, and what holds of it behind the loop, didn't close.
+fn run<F: FileExt>(
+    held: &mut Held,
+    file: &F,
+    watch: Watch,
+    buf: &mut [u8],
+) -> io::Result<Result<Option<Whole>, Refusal>>
+    requires { Inside held.old (length buf.old) }
+    ensures { Inside held.new (length buf.new) }
 {
-    let held = s.held;
-    let found = s.found;
-    let length = held.base + held.place;
-    Walked {
-        error: error_by(side, found, length),
-        length,
-        failed: held.failed | !s.over,
-    }
-}
-
-// The walk over one side. So many bytes of the other were read before.
-pub(crate) fn walk<F: FileExt>(
-    side: Side,
-    file: &mut Descriptor<F>,
-    err: Stderr,
-    watched: bool,
-    seen: usize,
-) -> Walked {
-    let mut buf = [0u8; 65536];
-    let mut s = Scan {
-        held: begun(),
-        found: Extent::End,
-        over: false,
-    };
-    let mut rounds = TRIES;
-    while rounds > 0 && !s.over {
-        s = round(s, file, &mut buf);
-        if watched {
-            let held = s.held;
-            progress(
-                err,
-                std::num::wrapping_add_u64(seen as u64, held.base as u64),
-            );
+    for _ in 0..TRIES {
+        let found = round(held, file, buf)?;
+        watch.show(held.base as u64);
+        if let Some(found) = found {
+            return Ok(found);
         }
-        rounds -= 1;
     }
-    if watched {
-        let held = s.held;
-        no_progress(
-            err,
-            std::num::wrapping_add_u64(seen as u64, held.base as u64),
-        );
-    }
-    ended(side, s)
+    Err(io::Error::from(io::ErrorKind::Other))
+}
+
+// How a walk over one side ended: its length, or its error where it has one.
+fn ended(side: Side, found: Result<Option<Whole>, Refusal>, length: usize) -> Result<usize, Failure>
+    ensures { result ≡ walked_as side found length }
+{
+    error_by(side, found, length).map_err(Failure::Erred)?;
+    Ok(length)
+}
+
+// The walk over one side.
+pub(crate) fn walk<F: FileExt>(side: Side, file: &F, watch: Watch) -> Result<usize, Failure> {
+    let mut buf = [0u8; 65536];
+    let mut held = Held::default();
+    let found = run(&mut held, file, watch, &mut buf);
+    watch.clear(held.base as u64);
+    let found = found.map_err(|why| Failure::Unread(side, why))?;
+    ended(side, found, held.at())
 }

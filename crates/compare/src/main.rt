@@ -8,200 +8,165 @@ mod differences;
 mod errors;
 mod said;
 mod side;
+mod watch;
 
-use comparison::{Error, Side};
-use differences::{Lengths, Outcome, Watch};
-use host::arguments::{count, word};
-use host::descriptor::{Descriptor, has_places, is_input_open, open, open_input, write};
-use host::failure::{closed, comes_once, is_unread};
-use host::report::{is_asked, mark};
-use host::said::is_watched;
-use rules::refusals::Refusal;
+use comparison::{Error, Likeness, Side, Sides};
+use differences::differences;
+use errors::walk;
+use host::arguments::{count, is_input};
+use host::descriptor::{is_input_open, open, open_input, write};
+use host::failure::{Trouble, comes_once};
+use host::report::{Failed, is_asked, mark, mark_unwritten, named};
+use host::said::Speaker;
 use std::fs::File;
 use std::io;
-use std::io::{Stderr, Stdout};
+use std::io::{Seek, Stdout};
+use watch::Watch;
 
-// How a run ended, as its mark says it.
+// Why two traces are not compared; one that has an error is not.
 #[derive(Clone, Copy)]
-enum Mark {
-    Equal,
-    Other,
-    Unwritten,
-    Nothing,
+pub(crate) enum Failure {
+    Unread(Side, io::Error),
+    Unwritten(io::Error),
+    Changed,
+    Erred(Error),
 }
 
-fn is_input(name: &[u8]) -> bool {
-    if name.len() != 1 {
-        return false;
+// Why a side cannot be used: its bytes come only once, or they cannot be read at all.
+#[derive(Clone, Copy)]
+enum Unusable {
+    Once,
+    Unread(io::Error),
+}
+
+impl Unusable {
+    fn of(why: io::Error, may_come_once: bool) -> Unusable {
+        if may_come_once && comes_once(why) {
+            return Unusable::Once;
+        }
+        Unusable::Unread(why)
     }
-    name[0] == b'-'
 }
 
+// Kept (point 5): each of these three takes one failure off the way to a file, and a struct of host and name would be opened in
+// each.
 // A side by its name. Where standard input is closed, a file that was opened meanwhile may have its number.
-fn opened(rt: &HostRuntime, name: &[u8], input_open: bool) -> io::Result<Descriptor<File>> {
+fn opened(rt: &HostRuntime, name: &[u8], input_open: bool) -> io::Result<File> {
     if !is_input(name) {
         return open(rt, name);
     }
     if !input_open {
-        return Err(closed());
+        return Err(io::Error::from(Trouble::Closed));
     }
     open_input(rt)
 }
 
-fn unusable(rt: &HostRuntime, name: &mut [u8], why: io::Error, once: bool) {
-    let input = is_input(name);
-    if once {
-        said::only_once(rt.stderr(), name, input);
-    } else {
-        said::side_unread(rt.stderr(), name, input, why);
-    }
+// A side whose bytes are there to be read twice, from any place.
+fn placed(rt: &HostRuntime, name: &[u8], input_open: bool) -> Result<File, Unusable> {
+    let mut file = opened(rt, name, input_open).map_err(|why| Unusable::of(why, is_input(name)))?;
+    file.stream_position()
+        .map_err(|why| Unusable::of(why, true))?;
+    Ok(file)
 }
 
-// Can a side be used? It must be open, and its bytes must be there to be read twice.
-fn usable(
-    rt: &HostRuntime,
-    opened: io::Result<Descriptor<File>>,
-    name: &mut [u8],
-) -> Option<Descriptor<File>> {
-    match opened {
-        Ok(mut file) => {
-            if has_places(&mut file) {
-                return Some(file);
-            }
-            unusable(rt, name, file.why(), comes_once(file.why()));
-        }
-        Err(why) => unusable(rt, name, why, is_input(name) && comes_once(why)),
+fn usable(rt: &HostRuntime, name: &mut [u8], input_open: bool) -> Result<File, Failed> {
+    let speaker = said::speaker(rt);
+    match placed(rt, name, input_open) {
+        Ok(file) => return Ok(file),
+        Err(Unusable::Once) => said::only_once(speaker, name),
+        Err(Unusable::Unread(why)) => said::side_unread(speaker, name, why),
     }
-    None
-}
-
-// Prints the error of a side.
-fn told(to: &mut Descriptor<Stdout>, side: Side, x: Refusal, place: usize) -> Outcome {
-    let mut out = [0u8; 4096];
-    let count = text::put_error(side, x, place as u64, &mut out);
-    if write(to, &out[0..count]) < count {
-        return Outcome::Unwritten;
-    }
-    Outcome::Erred
+    Err(Failed::Said)
 }
 
 // Both walks: the one for errors over each side, and the one for the lines where there is none.
-fn compared(
-    rt: &HostRuntime,
-    first: &mut Descriptor<File>,
-    second: &mut Descriptor<File>,
-    to: &mut Descriptor<Stdout>,
-) -> Outcome {
-    let err = rt.stderr();
-    let watched = is_watched(&err, &rt.stdout());
-    let one = errors::walk(Side::First, first, err, watched, 0);
-    if one.failed {
-        return Outcome::FirstUnread;
-    }
-    let error = one.error;
-    if let Error::At(side, x, place) = error {
-        return told(to, side, x, place);
-    }
-    let two = errors::walk(Side::Second, second, err, watched, one.length);
-    if two.failed {
-        return Outcome::SecondUnread;
-    }
-    let error = two.error;
-    if let Error::At(side, x, place) = error {
-        return told(to, side, x, place);
-    }
-    let watch = Watch {
-        err,
-        watched,
-        seen: std::num::wrapping_add_u64(one.length as u64, two.length as u64),
-    };
-    let lengths = Lengths {
-        first: one.length,
-        second: two.length,
-    };
-    differences::differences(first, second, to, lengths, watch)
+fn compared(rt: &HostRuntime, files: Sides<&File>, to: &mut Stdout) -> Result<Likeness, Failure> {
+    let watcher = said::speaker(rt).watcher(&rt.stdout());
+    let first = walk(Side::First, files.first, Watch { watcher, seen: 0 })?;
+    let seen = first as u64;
+    let second = walk(Side::Second, files.second, Watch { watcher, seen })?;
+    let seen = seen.wrapping_add(second as u64);
+    differences(files, to, Sides { first, second }, Watch { watcher, seen })
 }
 
-// Says what went wrong, and answers what the mark is to say.
-fn mark_of(
-    err: Stderr,
-    outcome: Outcome,
-    a: &mut [u8],
-    b: &mut [u8],
-    first: io::Error,
-    second: io::Error,
-) -> Mark {
-    match outcome {
-        Outcome::Equal => return Mark::Equal,
-        Outcome::Other => return Mark::Other,
-        Outcome::FirstUnread => said::side_unread(err, a, is_input(a), first),
-        Outcome::SecondUnread => said::side_unread(err, b, is_input(b), second),
-        Outcome::Unwritten => return Mark::Unwritten,
-        Outcome::Changed => said::changed(err),
-        Outcome::Erred => {}
+// Kept (point 6): as in the rounds, the line is the front of an array, with its count.
+// Prints the error of a side.
+fn put_error(to: &mut Stdout, error: Error) -> io::Result<()> {
+    let mut out = [0u8; 4096];
+    let count = text::put_error(error.side, error.refusal, error.place as u64, &mut out);
+    write(to, &out[..count])?;
+    Ok(())
+}
+
+// Tells why two traces are not compared, unless lines could not be written.
+fn told(speaker: Speaker, failure: Failure, a: &mut [u8], b: &mut [u8], to: &mut Stdout) -> Failed {
+    match failure {
+        Failure::Unread(Side::First, why) => said::side_unread(speaker, a, why),
+        Failure::Unread(Side::Second, why) => said::side_unread(speaker, b, why),
+        Failure::Unwritten(why) => return Failed::Unwritten(why),
+        Failure::Changed => said::changed(speaker),
+        Failure::Erred(error) => {
+            if let Err(why) = put_error(to, error) {
+                return Failed::Unwritten(why);
+            }
+        }
     }
-    Mark::Nothing
+    Failed::Said
 }
 
 // The two sides by their names.
-fn of_files(rt: &HostRuntime, a: &mut [u8], b: &mut [u8], to: &mut Descriptor<Stdout>) -> Mark {
+fn of_files(
+    rt: &HostRuntime,
+    a: &mut [u8],
+    b: &mut [u8],
+    to: &mut Stdout,
+) -> Result<Likeness, Failed> {
     let input_open = is_input_open(rt);
-    let Some(mut first) = usable(rt, opened(rt, a, input_open), a) else {
-        return Mark::Nothing;
+    let first = usable(rt, a, input_open)?;
+    let second = usable(rt, b, input_open)?;
+    let files = Sides {
+        first: &first,
+        second: &second,
     };
-    let Some(mut second) = usable(rt, opened(rt, b, input_open), b) else {
-        return Mark::Nothing;
-    };
-    let outcome = compared(rt, &mut first, &mut second, to);
-    mark_of(rt.stderr(), outcome, a, b, first.why(), second.why())
+    compared(rt, files, to).map_err(|failure| told(said::speaker(rt), failure, a, b, to))
 }
 
 // What the arguments from this place on ask for.
-fn asked(rt: &HostRuntime, place: usize, to: &mut Descriptor<Stdout>) -> Mark {
-    let err = rt.stderr();
-    let words = count(rt);
-    if words < place {
-        said::not_two(err);
-        return Mark::Nothing;
-    }
-    if words - place != 2 {
-        said::not_two(err);
-        return Mark::Nothing;
+fn asked(rt: &HostRuntime, place: usize, to: &mut Stdout) -> Result<Likeness, Failed> {
+    let speaker = said::speaker(rt);
+    if count(rt).checked_sub(place) != Some(2) {
+        said::not_two(speaker);
+        return Err(Failed::Said);
     }
     let mut a = [0u8; 4096];
     let mut b = [0u8; 4096];
-    match (word(rt, place, &mut a), word(rt, place + 1, &mut b)) {
-        (Ok(one), Ok(two)) => of_files(rt, &mut a[..one], &mut b[..two], to),
-        (Err(why), _) | (Ok(_), Err(why)) => {
-            said::argument_unread(err, why);
-            Mark::Nothing
-        }
-    }
+    let first = named(rt, speaker, place, &mut a)?;
+    let second = named(rt, speaker, place + 1, &mut b)?;
+    of_files(rt, first, second, to)
 }
 
-// Where nobody reads the lines any more, a caller that asked for a mark is told so by one, and says the rest itself.
-fn unwritten(rt: &HostRuntime, why: io::Error) {
-    if !is_unread(why) || !mark(rt, b"gone\n") {
-        said::output_unwritten(rt.stderr(), why);
+// Kept (point 4): two words for three cases, which only the mark of this program has.
+fn word_of(likeness: Likeness) -> &'static str {
+    match likeness {
+        Likeness::Equal => "equal\n",
+        Likeness::Prefix | Likeness::Different => "other\n",
     }
 }
 
 fn main(rt: HostRuntime) {
-    let mut to = Descriptor::new(rt.stdout());
+    let speaker = said::speaker(&rt);
+    let mut to = rt.stdout();
     if !is_asked(&rt) {
-        if let Mark::Unwritten = asked(&rt, 1, &mut to) {
-            said::output_unwritten(rt.stderr(), to.why());
+        if let Err(Failed::Unwritten(why)) = asked(&rt, 1, &mut to) {
+            speaker.output_unwritten(why);
         }
         return;
     }
     match asked(&rt, 2, &mut to) {
-        Mark::Equal => {
-            mark(&rt, b"equal\n");
+        Ok(likeness) => {
+            let _ = mark(&rt, word_of(likeness));
         }
-        Mark::Other => {
-            mark(&rt, b"other\n");
-        }
-        Mark::Unwritten => unwritten(&rt, to.why()),
-        Mark::Nothing => {}
+        Err(Failed::Said) => {}
+        Err(Failed::Unwritten(why)) => mark_unwritten(&rt, speaker, why),
     }
 }

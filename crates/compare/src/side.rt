@@ -1,11 +1,13 @@
 // One side of a comparison: the part of a file that is held. A part is read anew from the first byte that is not passed
 // yet, so nothing has to be moved in its buffer, and what is read twice is less than a record.
-ghost use Rattle.std.specs.Prelude.{◌≡◌, length};
-ghost use Rattle.compare.specs.Parts.{Inside, Refilled, passed_to, is_cut, wants_bytes};
+ghost use Rattle.std.specs.Prelude.{◌≡◌, ◌+◌, ◌^◌, ◌<◌, length};
+ghost use Rattle.compare.specs.Parts.{Inside, Refilled, is_cut, wants_bytes, wants_more};
 
-use comparison::Extent;
-use host::descriptor::{Descriptor, fill_at};
-use lines::number_of;
+use comparison::Whole;
+use comparison::one::extent;
+use host::descriptor::fill_at;
+use rules::refusals::Refusal;
+use std::io::{Error, ErrorKind, Result as IoResult};
 use std::os::unix::fs::FileExt;
 
 // No file is longer than an offset can say. So the sum of a place and a buffer's length always fits.
@@ -13,79 +15,63 @@ const FARTHEST: usize = 0x7fff_ffff_0000_0000;
 
 // The part that is held begins at `base`, has `filled` bytes, and is passed up to `place`; behind it comes nothing more where
 // it is `last`.
-#[derive(Clone, Copy)]
+// Kept (point 5): that it is inside its buffer (`Inside`) is no invariant: `passed_to` (specs/Parts) makes one of any place,
+// and the buffer's length is part of what is said.
+// Kept (point 6): the counts stand beside the buffer since the project has no heap: what is held is the front of an array.
+#[derive(Clone, Copy, Default)]
 pub(crate) struct Held {
     pub base: usize,
     pub filled: usize,
     pub place: usize,
     pub last: bool,
-    pub failed: bool,
 }
 
-// Nothing is held yet.
-pub(crate) fn begun() -> Held
-    ensures { (result.base ≡ 0) × (result.filled ≡ 0) × (result.place ≡ 0) }
-{
-    Held {
-        base: 0,
-        filled: 0,
-        place: 0,
-        last: false,
-        failed: false,
+impl Held {
+    // Where the side is in its trace.
+    pub(crate) fn at(self) -> usize
+        requires { self.base + self.place < 2 ^ 64 }
+        ensures { result ≡ self.base + self.place }
+    {
+        self.base + self.place
     }
-}
 
-// The part that begins at the first byte that is not passed yet.
-pub(crate) fn refill<F: FileExt>(h: Held, file: &mut Descriptor<F>, buf: &mut [u8]) -> Held
-    requires { Inside h (length buf.old) }
-    ensures { Refilled h result (length buf.new) }
-{
-    let from = h.base + h.place;
-    if from > FARTHEST {
-        return Held {
-            base: h.base,
-            filled: h.filled,
-            place: h.place,
-            last: h.last,
-            failed: true,
-        };
+    // The part that begins at the first byte that is not passed yet. Where it cannot be read, what is held stays.
+    pub(crate) fn refill<F: FileExt>(&mut self, file: &F, buf: &mut [u8]) -> IoResult<()>
+        requires { Inside self.old (length buf.old) }
+        ensures { Refilled self.old result self.new (length buf.new) }
+    {
+        let from = self.at();
+        if from > FARTHEST {
+            return Err(Error::from(ErrorKind::Other));
+        }
+        let filled = fill_at(file, from, buf)?;
+        self.base = from;
+        self.filled = filled;
+        self.place = 0;
+        self.last = filled < buf.len();
+        Ok(())
     }
-    let got = fill_at(file, from, buf);
-    Held {
-        base: from,
-        filled: got.count,
-        place: 0,
-        last: got.ended,
-        failed: got.failed,
-    }
-}
 
-// The same part, passed up to another place.
-pub(crate) fn passed(h: Held, place: usize) -> Held
-    ensures { result ≡ passed_to place h }
-{
-    Held {
-        base: h.base,
-        filled: h.filled,
-        place,
-        last: h.last,
-        failed: h.failed,
+    // Could more bytes make the next record whole?
+    pub(crate) fn wants(self, buf: &[u8]) -> bool
+        requires { Inside self (length buf.now) }
+        ensures { result ≡ wants_more self buf.now }
+    {
+        wants_bytes(extent(&buf[..self.filled], self.place), self.last)
     }
 }
 
 // Could more bytes make a record whole that is not?
-fn is_cut(e: Extent) -> bool
-    ensures { result ≡ is_cut e }
+// Kept (point 2): one pattern, as in `steps::chunk` over records; neither crate stands on the other, and one below both would
+// hold no more than this line.
+fn is_cut(found: Result<Option<Whole>, Refusal>) -> bool
+    ensures { result ≡ is_cut found }
 {
-    match e {
-        Extent::Whole(_, _) => false,
-        Extent::End => true,
-        Extent::Refused(x) => number_of(x) == 17,
-    }
+    matches!(found, Ok(None) | Err(Refusal::CutShort))
 }
 
-pub(crate) fn wants_bytes(e: Extent, last: bool) -> bool
-    ensures { result ≡ wants_bytes e last }
+pub(crate) fn wants_bytes(found: Result<Option<Whole>, Refusal>, last: bool) -> bool
+    ensures { result ≡ wants_bytes found last }
 {
-    is_cut(e) & !last
+    is_cut(found) && !last
 }

@@ -1,28 +1,27 @@
 -- Numbers of the comparison, worked out by hand; proofs/Bench shows that they hold. A slip of a rule that they do not refuse
 -- is refused by a theorem, or means the same.
 -- Assumes nothing.
-use Rattle.std.specs.Prelude.{List, [], ◌∷◌, ◌++◌, ℕ}
+use Rattle.std.specs.Prelude.{List, [], ◌∷◌, ◌++◌, ℕ, ◌+◌, cond, Some, None, Ok, Err}
 use Rattle.rules.specs.Bench.Edges.{Seen, see}
 use Rattle.rules.proofs.Laws.Trace.{trace_of}
 use Rattle.rules.specs.declared.trace.Record.{Record}
 use Rattle.rules.specs.declared.trace.Record.TheVariants.{Node, Model, Start, Bio as BioOf, Tick}
-use Rattle.comparison.specs.Compare.{records_end, step_at, compared, rest_of}
+use Rattle.comparison.specs.Compare.{Stepped, records_end, step_at, compared, rest_of}
 use Rattle.comparison.specs.Paper.{side_number, answer_values, comparison_paper}
 use Rattle.rules.specs.Refusals.{number}
-use Rattle.comparison.specs.declared.Step.{Step}
-use Rattle.comparison.specs.declared.Step.TheVariants.{Same, Differs, FirstEnds, SecondEnds, BothEnd, Refused as StepRefused}
+use Rattle.trace.specs.Kinds.{code}
+use Rattle.comparison.specs.declared.Step.TheVariants.{Pair, Over}
 
 -- an answer as numbers: that of the error, then the side and the place of the error, or the difference, the end and the likeness
 abbrev pub asked : List ℕ → List ℕ → ℕ → List ℕ
 asked first second from = (comparison_paper (compared first second from)).number ∷ (comparison_paper (compared first second from)).values
 
-abbrev pub step_numbers : Step → List ℕ
-step_numbers (Same p q) = 1 ∷ p ∷ q ∷ []
-step_numbers (Differs k l p q) = 2 ∷ k ∷ l ∷ p ∷ q ∷ []
-step_numbers FirstEnds = 3 ∷ []
-step_numbers SecondEnds = 4 ∷ []
-step_numbers BothEnd = 5 ∷ []
-step_numbers (StepRefused side x) = 6 ∷ side_number side ∷ number x ∷ []
+abbrev pub step_numbers : Stepped → List ℕ
+step_numbers (Ok (Pair p)) =
+    cond p.same (1 ∷ p.first.next ∷ p.second.next ∷ []) (2 ∷ code p.first.kind ∷ code p.second.kind ∷ p.first.next ∷ p.second.next ∷ [])
+step_numbers (Ok (Over (Some side))) = (2 + side_number side) ∷ []
+step_numbers (Ok (Over None)) = 5 ∷ []
+step_numbers (Err e) = 6 ∷ side_number e.side ∷ number e.refusal ∷ []
 
 -- ---- document 01's whole case, and the same with id 8 and no plan
 abbrev pub bench : ℕ → List Record

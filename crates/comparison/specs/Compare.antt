@@ -1,47 +1,37 @@
 -- Request Seven: two traces compared record by record, numbered from 0.
 -- Assumes nothing.
-use Rattle.std.specs.Prelude.{Bool, true, false, cond, ◌&&◌, List, [], ◌∷◌, ℕ, zero, suc, ◌+◌, ◌-◌, eqb, leb, length, take, drop}
-use Rattle.rules.specs.Trace.{kind_of, read_at}
-use Rattle.rules.specs.declared.trace.Read.{Read}
-use Rattle.rules.specs.declared.trace.Read.TheVariants.{Found, End as EndOf, Refused as Unread}
+use Rattle.std.specs.Prelude.{Bool, true, false, cond, ◌&&◌, List, [], ◌∷◌, ℕ, zero, suc, ◌+◌, ◌-◌, eqb, leb, length, take, drop, Option, Some, None, Result, Ok, Err, ⊤}
+use Rattle.rules.specs.declared.refusals.Refusal.{Refusal}
+use Rattle.trace.specs.Extents.{extent_at}
+use Rattle.trace.specs.declared.decoder.Whole.{Whole}
 use Rattle.comparison.specs.declared.Side.{Side}
 use Rattle.comparison.specs.declared.Side.TheVariants.{First, Second}
 use Rattle.comparison.specs.declared.Difference.{Difference}
-use Rattle.comparison.specs.declared.Difference.TheVariants.{At, Nothing}
 use Rattle.comparison.specs.declared.Ends.{Ends}
-use Rattle.comparison.specs.declared.Ends.TheVariants.{First as EndsFirst, Second as EndsSecond, Neither, Untold as NoEnd}
 use Rattle.comparison.specs.declared.Likeness.{Likeness}
-use Rattle.comparison.specs.declared.Likeness.TheVariants.{Equal, Prefix, Different, Untold}
+use Rattle.comparison.specs.declared.Likeness.TheVariants.{Equal, Prefix, Different}
 use Rattle.comparison.specs.declared.Error.{Error}
-use Rattle.comparison.specs.declared.Error.TheVariants.{At as ErrorAt, Nothing as NoError}
 use Rattle.comparison.specs.declared.Comparison.{Comparison}
-use Rattle.comparison.specs.declared.Longer.{Longer}
-use Rattle.comparison.specs.declared.Longer.TheVariants.{First as LongerFirst, Second as LongerSecond, Neither as NoLonger}
-use Rattle.comparison.specs.declared.Extent.{Extent}
-use Rattle.comparison.specs.declared.Extent.TheVariants.{Whole, End, Refused}
+use Rattle.comparison.specs.declared.Pair.{Pair as PairOf}
 use Rattle.comparison.specs.declared.Step.{Step}
-use Rattle.comparison.specs.declared.Step.TheVariants.{Same, Differs, FirstEnds, SecondEnds, BothEnd, Refused as StepRefused}
+use Rattle.comparison.specs.declared.Step.TheVariants.{Pair, Over}
+use Rattle.comparison.specs.declared.Reach.{Reach}
 use Rattle.comparison.specs.declared.Walk.{Walk}
 
--- ---- one trace: what stands at a place, of which the kind and the end are looked at
-abbrev pub extent_of : Read → Extent
-extent_of (Found r next) = Whole (kind_of r) next
-extent_of EndOf = End
-extent_of (Unread x) = Refused x
-
-unfoldable pub extent_at : List ℕ → ℕ → Extent
-extent_at trace at = extent_of (read_at trace at)
+-- ---- one trace: what stands at a place, of which the kind and the end are looked at (`extent_at`)
+abbrev pub Extent : Type 0
+Extent = Result (Option Whole) Refusal
 
 abbrev pub is_whole : Extent → Bool
-is_whole (Whole kind next) = true
-is_whole End = false
-is_whole (Refused x) = false
+is_whole (Ok (Some w)) = true
+is_whole (Ok None) = false
+is_whole (Err x) = false
 
 -- the place behind a whole record; anything else is not passed
 abbrev pub past_of : Extent → ℕ → ℕ
-past_of (Whole kind next) at = next
-past_of End at = at
-past_of (Refused x) at = at
+past_of (Ok (Some w)) at = w.next
+past_of (Ok None) at = at
+past_of (Err x) at = at
 
 -- where the whole records end that stand one behind the other from a place on: at the end of the trace, or at an error
 unfoldable pub records_end_from : ℕ → List ℕ → ℕ → ℕ
@@ -54,20 +44,22 @@ unfoldable pub records_end : List ℕ → ℕ → ℕ
 records_end trace at = records_end_from (suc (length trace)) trace at
 
 -- "Trace errors 16 and 17 are reported with the side and the byte place where the record begins"
-abbrev pub error_by : Side → Extent → ℕ → Error
-error_by side (Whole kind next) at = NoError
-error_by side End at = NoError
-error_by side (Refused x) at = ErrorAt side x at
+abbrev pub Fault : Type 0
+Fault = Result ⊤ Error
 
-unfoldable pub error_in : Side → List ℕ → Error
+abbrev pub error_by : Side → Extent → ℕ → Fault
+error_by side (Ok found) at = Ok tt
+error_by side (Err x) at = Err (record { side = side; refusal = x; place = at })
+
+unfoldable pub error_in : Side → List ℕ → Fault
 error_in side trace = error_by side (extent_at trace (records_end trace 0)) (records_end trace 0)
 
 -- "the first trace's before the second's"
-abbrev pub else_error : Error → Error → Error
-else_error (ErrorAt side x at) e = ErrorAt side x at
-else_error NoError e = e
+abbrev pub else_error : Fault → Fault → Fault
+else_error (Err e) other = Err e
+else_error (Ok none) other = other
 
-unfoldable pub error_of : List ℕ → List ℕ → Error
+unfoldable pub error_of : List ℕ → List ℕ → Fault
 error_of first second = else_error (error_in First first) (error_in Second second)
 
 -- ---- one step over both places
@@ -82,54 +74,66 @@ abbrev pub between : ℕ → ℕ → List ℕ → List ℕ
 between at next trace = take (next - at) (drop at trace)
 
 -- "Compare record by record": two records differ where their bytes do
-unfoldable pub step_by : List ℕ → ℕ → Extent → List ℕ → ℕ → Extent → Step
-step_by first p (Refused x) second q e = StepRefused First x
-step_by first p End second q (Refused x) = StepRefused Second x
-step_by first p (Whole k p₁) second q (Refused x) = StepRefused Second x
-step_by first p End second q End = BothEnd
-step_by first p End second q (Whole l q₁) = FirstEnds
-step_by first p (Whole k p₁) second q End = SecondEnds
-step_by first p (Whole k p₁) second q (Whole l q₁) =
-    cond (same_bytes (between p p₁ first) (between q q₁ second)) (Same p₁ q₁) (Differs k l p₁ q₁)
+abbrev pub pair_at : List ℕ → ℕ → Whole → List ℕ → ℕ → Whole → PairOf
+pair_at first p v second q w =
+    record { first = v; second = w; same = same_bytes (between p v.next first) (between q w.next second) }
 
-unfoldable pub step_at : List ℕ → ℕ → List ℕ → ℕ → Step
+abbrev pub Stepped : Type 0
+Stepped = Result Step Error
+
+-- an error at a place of a trace is that of the record which begins there
+abbrev pub found_by : Side → ℕ → Extent → Result (Option Whole) Error
+found_by side at (Ok found) = Ok found
+found_by side at (Err x) = Err (record { side = side; refusal = x; place = at })
+
+unfoldable pub step_by : List ℕ → ℕ → Extent → List ℕ → ℕ → Extent → Stepped
+step_by first p (Err x) second q e = Err (record { side = First; refusal = x; place = p })
+step_by first p (Ok d) second q (Err x) = Err (record { side = Second; refusal = x; place = q })
+step_by first p (Ok None) second q (Ok None) = Ok (Over None)
+step_by first p (Ok None) second q (Ok (Some w)) = Ok (Over (Some First))
+step_by first p (Ok (Some v)) second q (Ok None) = Ok (Over (Some Second))
+step_by first p (Ok (Some v)) second q (Ok (Some w)) = Ok (Pair (pair_at first p v second q w))
+
+unfoldable pub step_at : List ℕ → ℕ → List ℕ → ℕ → Stepped
 step_at first p second q = step_by first p (extent_at first p) second q (extent_at second q)
 
 -- ---- the walk: from step to step as far as both have a record
-abbrev pub is_pair : Step → Bool
-is_pair (Same p q) = true
-is_pair (Differs k l p q) = true
-is_pair FirstEnds = false
-is_pair SecondEnds = false
-is_pair BothEnd = false
-is_pair (StepRefused side x) = false
+abbrev pub is_pair : Stepped → Bool
+is_pair (Ok (Pair p)) = true
+is_pair (Ok (Over side)) = false
+is_pair (Err e) = false
 
-abbrev pub else_difference : Difference → Difference → Difference
-else_difference (At n k l) d = At n k l
-else_difference Nothing d = d
+abbrev pub reach_at_start : Reach
+reach_at_start = record { number = 0; first = 0; second = 0; alike = true }
+
+-- how far the walk is behind a step
+unfoldable pub advanced : Stepped → Reach → Reach
+advanced (Ok (Pair p)) r =
+    record { number = r.number + 1; first = p.first.next; second = p.second.next; alike = r.alike && p.same }
+advanced (Ok (Over side)) r = r
+advanced (Err e) r = r
+
+abbrev pub else_difference : Option Difference → Option Difference → Option Difference
+else_difference (Some d) other = Some d
+else_difference None other = other
 
 -- "asked with a record number, give the first record at or after it where .. they differ, with the kinds on both sides"
-unfoldable pub passed : ℕ → Step → Walk → Walk
-passed from (Same p q) w =
-    record { number = w.number + 1; first = p; second = q; difference = w.difference; alike = w.alike }
-passed from (Differs k l p q) w =
-    record {
-      number = w.number + 1;
-      first = p;
-      second = q;
-      difference = else_difference w.difference (cond (leb from w.number) (At w.number k l) Nothing);
-      alike = false;
-    }
-passed from FirstEnds w = w
-passed from SecondEnds w = w
-passed from BothEnd w = w
-passed from (StepRefused side x) w = w
+abbrev pub noted : ℕ → PairOf → Walk → Option Difference
+noted from p w =
+    cond p.same w.difference
+    (else_difference w.difference
+    (cond (leb from w.reach.number) (Some (record { number = w.reach.number; first = p.first.kind; second = p.second.kind })) None))
+
+unfoldable pub passed : ℕ → Stepped → Walk → Walk
+passed from (Ok (Pair p)) w = record { reach = advanced (Ok (Pair p)) w.reach; difference = noted from p w }
+passed from (Ok (Over side)) w = w
+passed from (Err e) w = w
 
 abbrev pub at_start : Walk
-at_start = record { number = 0; first = 0; second = 0; difference = Nothing; alike = true }
+at_start = record { reach = reach_at_start; difference = None }
 
-abbrev pub step_of : List ℕ → List ℕ → Walk → Step
-step_of first second w = step_at first w.first second w.second
+abbrev pub step_of : List ℕ → List ℕ → Walk → Stepped
+step_of first second w = step_at first w.reach.first second w.reach.second
 
 unfoldable pub walk_from : ℕ → List ℕ → List ℕ → ℕ → Walk → Walk
 walk_from zero first second from w = w
@@ -141,65 +145,92 @@ walked first second from = walk_from (suc (length first)) first second from at_s
 
 -- ---- the answer
 -- "and say which trace ends first, or neither, and after how many records"
-abbrev pub ends_by : Step → ℕ → Ends
-ends_by FirstEnds n = EndsFirst n
-ends_by SecondEnds n = EndsSecond n
-ends_by BothEnd n = Neither n
-ends_by (Same p q) n = NoEnd
-ends_by (Differs k l p q) n = NoEnd
-ends_by (StepRefused side x) n = NoEnd
+abbrev pub ends_by : Stepped → ℕ → Option Ends
+ends_by (Ok (Over side)) n = Some (record { side = side; records = n })
+ends_by (Ok (Pair p)) n = None
+ends_by (Err e) n = None
 
 -- "equal, whatever number was asked": all that was passed is the same
-abbrev pub equal_if : Bool → Likeness
-equal_if alike = cond alike Equal Different
+abbrev pub likeness_if : Bool → Option Side → Likeness
+likeness_if false side = Different
+likeness_if true (Some side) = Prefix
+likeness_if true None = Equal
 
-abbrev pub prefix_if : Bool → Likeness
-prefix_if alike = cond alike Prefix Different
+abbrev pub likeness_by : Stepped → Bool → Option Likeness
+likeness_by (Ok (Over side)) alike = Some (likeness_if alike side)
+likeness_by (Ok (Pair p)) alike = None
+likeness_by (Err e) alike = None
 
-abbrev pub likeness_by : Step → Bool → Likeness
-likeness_by FirstEnds alike = prefix_if alike
-likeness_by SecondEnds alike = prefix_if alike
-likeness_by BothEnd alike = equal_if alike
-likeness_by (Same p q) alike = Untold
-likeness_by (Differs k l p q) alike = Untold
-likeness_by (StepRefused side x) alike = Untold
+-- who ends first where a walk is over: of two traces without errors it is over nowhere else
+abbrev pub side_by : Stepped → Option Side
+side_by (Ok (Over side)) = side
+side_by (Ok (Pair p)) = None
+side_by (Err e) = None
 
-unfoldable pub concluded : Step → Walk → Comparison
+unfoldable pub concluded : Stepped → Walk → Comparison
 concluded s w =
-    record { error = NoError; difference = w.difference; ends = ends_by s w.number; likeness = likeness_by s w.alike }
+    record {
+      difference = w.difference;
+      ends = record { side = side_by s; records = w.reach.number };
+      likeness = likeness_if w.reach.alike (side_by s);
+    }
 
-abbrev pub troubled : Error → Comparison
-troubled e = record { error = e; difference = Nothing; ends = NoEnd; likeness = Untold }
+abbrev pub Told : Type 0
+Told = Result Comparison Error
 
--- "with no differences"
-abbrev pub unless_error : Error → Comparison → Comparison
-unless_error (ErrorAt side x at) c = troubled (ErrorAt side x at)
-unless_error NoError c = c
+-- "with no differences": an error stands alone
+abbrev pub unless_error : Fault → Comparison → Told
+unless_error (Err e) c = Err e
+unless_error (Ok none) c = Ok c
 
 unfoldable pub compared_from : List ℕ → List ℕ → Walk → Comparison
 compared_from first second w = concluded (step_of first second w) w
 
-unfoldable pub compared : List ℕ → List ℕ → ℕ → Comparison
+unfoldable pub compared : List ℕ → List ℕ → ℕ → Told
 compared first second from = unless_error (error_of first second) (compared_from first second (walked first second from))
+
+-- what is told, and nothing of it beside an error
+abbrev pub fault_told : Told → Fault
+fault_told (Ok c) = Ok tt
+fault_told (Err e) = Err e
+
+abbrev pub difference_told : Told → Option Difference
+difference_told (Ok c) = c.difference
+difference_told (Err e) = None
+
+abbrev pub ends_told : Told → Option Ends
+ends_told (Ok c) = Some c.ends
+ends_told (Err e) = None
+
+abbrev pub likeness_told : Told → Option Likeness
+likeness_told (Ok c) = Some c.likeness
+likeness_told (Err e) = None
 
 -- ---- "When one is a prefix of the other, hand back the remaining records of the longer trace; in every other case, equal
 -- traces too, the empty rest of the first"
-abbrev pub longer_by : Likeness → Ends → Longer
-longer_by Prefix (EndsFirst n) = LongerSecond
-longer_by Prefix (EndsSecond n) = LongerFirst
-longer_by Prefix (Neither n) = NoLonger
-longer_by Prefix NoEnd = NoLonger
-longer_by Equal e = NoLonger
-longer_by Different e = NoLonger
-longer_by Untold e = NoLonger
+abbrev pub other_side : Side → Side
+other_side First = Second
+other_side Second = First
 
-abbrev pub longer_of : Comparison → Longer
-longer_of c = longer_by c.likeness c.ends
+-- the trace that ends first is the prefix
+abbrev pub other_of : Option Side → Option Side
+other_of (Some side) = Some (other_side side)
+other_of None = None
 
-abbrev pub rest_by : Longer → List ℕ → List ℕ → List ℕ
-rest_by LongerFirst first second = drop (length second) first
-rest_by LongerSecond first second = drop (length first) second
-rest_by NoLonger first second = drop (length first) first
+abbrev pub longer_by : Option Likeness → Option Ends → Option Side
+longer_by (Some Prefix) (Some ends) = other_of ends.side
+longer_by (Some Prefix) None = None
+longer_by (Some Equal) e = None
+longer_by (Some Different) e = None
+longer_by None e = None
+
+abbrev pub longer_of : Told → Option Side
+longer_of c = longer_by (likeness_told c) (ends_told c)
+
+abbrev pub rest_by : Option Side → List ℕ → List ℕ → List ℕ
+rest_by (Some First) first second = drop (length second) first
+rest_by (Some Second) first second = drop (length first) second
+rest_by None first second = drop (length first) first
 
 unfoldable pub rest_of : List ℕ → List ℕ → List ℕ
 rest_of first second = rest_by (longer_of (compared first second 0)) first second

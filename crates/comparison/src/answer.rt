@@ -2,139 +2,127 @@
 // the longer trace where one is a prefix of the other.
 ghost use Rattle.std.specs.Prelude.{◌≡◌};
 ghost use Rattle.comparison.specs.Paper.{comparison_paper, compared_paper};
-ghost use Rattle.comparison.specs.Compare.{error_of, ends_by, equal_if, prefix_if, likeness_by, concluded, troubled, compared, longer_by, rest_of};
+ghost use Rattle.comparison.specs.Compare.{other_side, side_by, ends_by, likeness_if, likeness_by, concluded, compared, longer_by, longer_of, rest_of};
 
 use crate::both::{step, walk};
 use crate::one::error_in;
-use crate::{Comparison, Difference, Ends, Error, Likeness, Longer, Side, Step, Walk};
+use crate::{Comparison, Ends, Error, Likeness, Side, Step, Walk};
 
-// The first trace's error before the second's.
-fn error_of(first: &[u8], second: &[u8]) -> Error
-    ensures { result ≡ error_of first.now second.now }
-{
-    let e = error_in(Side::First, first);
-    match e {
-        Error::At(_, _, _) => e,
-        Error::Nothing => error_in(Side::Second, second),
-    }
-}
-
-// Which trace ends first, by the step at which the walk ended.
-pub fn ends_by(s: Step, number: usize) -> Ends
-    ensures { result ≡ ends_by s number }
-{
-    match s {
-        Step::Same(_, _) => Ends::Untold,
-        Step::Differs(_, _, _, _) => Ends::Untold,
-        Step::FirstEnds => Ends::First(number),
-        Step::SecondEnds => Ends::Second(number),
-        Step::BothEnd => Ends::Neither(number),
-        Step::Refused(_, _) => Ends::Untold,
-    }
-}
-
-fn prefix_if(alike: bool) -> Likeness
-    ensures { result ≡ prefix_if alike }
-{
-    if alike {
-        return Likeness::Prefix;
-    }
-    Likeness::Different
-}
-
-fn equal_if(alike: bool) -> Likeness
-    ensures { result ≡ equal_if alike }
-{
-    if alike {
-        return Likeness::Equal;
-    }
-    Likeness::Different
-}
-
-pub fn likeness_by(s: Step, alike: bool) -> Likeness
-    ensures { result ≡ likeness_by s alike }
-{
-    match s {
-        Step::Same(_, _) => Likeness::Untold,
-        Step::Differs(_, _, _, _) => Likeness::Untold,
-        Step::FirstEnds => prefix_if(alike),
-        Step::SecondEnds => prefix_if(alike),
-        Step::BothEnd => equal_if(alike),
-        Step::Refused(_, _) => Likeness::Untold,
-    }
-}
-
-fn concluded(s: Step, w: Walk) -> Comparison
-    ensures { result ≡ concluded s w }
-{
-    let difference = w.difference;
-    Comparison {
-        error: Error::Nothing,
-        difference,
-        ends: ends_by(s, w.number),
-        likeness: likeness_by(s, w.alike),
-    }
-}
-
-fn troubled(e: Error) -> Comparison
-    ensures { result ≡ troubled e }
-{
-    Comparison {
-        error: e,
-        difference: Difference::Nothing,
-        ends: Ends::Untold,
-        likeness: Likeness::Untold,
-    }
-}
-
-// Any two traces and any number have an answer.
-pub fn compare(first: &[u8], second: &[u8], from: usize) -> Comparison
-    ensures value { result ≡ compared first.now second.now from }
-    ensures number { comparison_paper result ≡ compared_paper first.now second.now from }
-{
-    let e = error_of(first, second);
-    match e {
-        Error::At(_, _, _) => troubled(e),
-        Error::Nothing => {
-            let w = walk(first, second, from);
-            concluded(step(first, w.first, second, w.second), w)
+impl Side {
+    fn other(self) -> Side
+        ensures { result ≡ other_side self }
+    {
+        match self {
+            Side::First => Side::Second,
+            Side::Second => Side::First,
         }
     }
 }
 
-// The trace that ends first is the prefix, so the other one is longer.
-fn longer_by(ends: Ends) -> Longer
-    ensures { result ≡ longer_by Likeness.Prefix ends }
+// Which trace ends first, by the step at which the walk ended; nothing is told of a step at which no trace ends.
+// Kept (point 2): a function under this, `likeness_by` and `side_by` would answer an `Option<Option<Side>>`, and say less.
+// Kept (point 4): a step that may be an error is a `Result`, and a crate can give std's type no methods.
+pub fn ends_by(s: Result<Step, Error>, number: usize) -> Option<Ends>
+    ensures { result ≡ ends_by s number }
 {
-    match ends {
-        Ends::First(_) => Longer::Second,
-        Ends::Second(_) => Longer::First,
-        Ends::Neither(_) => Longer::Neither,
-        Ends::Untold => Longer::Neither,
+    match s {
+        Ok(Step::Over(side)) => Some(Ends {
+            side,
+            records: number,
+        }),
+        _ => None,
     }
 }
 
-pub fn longer_of(likeness: Likeness, ends: Ends) -> Longer
+// Traces that are alike as far as both have records: neither has more of them, or one has.
+fn likeness_if(alike: bool, ends_first: Option<Side>) -> Likeness
+    ensures { result ≡ likeness_if alike ends_first }
+{
+    match (alike, ends_first) {
+        (false, _) => Likeness::Different,
+        (true, Some(_)) => Likeness::Prefix,
+        (true, None) => Likeness::Equal,
+    }
+}
+
+// Kept (point 4): as `ends_by`.
+pub fn likeness_by(s: Result<Step, Error>, alike: bool) -> Option<Likeness>
+    ensures { result ≡ likeness_by s alike }
+{
+    match s {
+        Ok(Step::Over(side)) => Some(likeness_if(alike, side)),
+        _ => None,
+    }
+}
+
+// Who ends first at the end of a walk. Without an error no other step is its last.
+fn side_by(s: Result<Step, Error>) -> Option<Side>
+    ensures { result ≡ side_by s }
+{
+    match s {
+        Ok(Step::Over(side)) => side,
+        _ => None,
+    }
+}
+
+#[tactic(auto, unfolding(crate::specs::Compare::concluded))]
+fn concluded(s: Result<Step, Error>, w: Walk) -> Comparison
+    ensures { result ≡ concluded s w }
+{
+    let side = side_by(s);
+    Comparison {
+        difference: w.difference,
+        ends: Ends {
+            side,
+            records: w.reach.number,
+        },
+        likeness: likeness_if(w.reach.alike, side),
+    }
+}
+
+// Any two traces and any number have an answer. The first trace's error comes before the second's.
+// Kept (point 5): the entries lend two slices (docs/entries.md: `compare`, `rest`, `step`), and a struct of both would be taken
+// apart again for `error_in` and `step`.
+#[tactic(auto, using(crate::proofs::Paper::compared_on_paper), unfolding(crate::specs::Compare::compared, crate::specs::Compare::error_of, crate::specs::Compare::compared_from))]
+pub fn compare(first: &[u8], second: &[u8], from: usize) -> Result<Comparison, Error>
+    ensures value { result ≡ compared first.now second.now from }
+    ensures number { comparison_paper result ≡ compared_paper first.now second.now from }
+{
+    error_in(Side::First, first)?;
+    error_in(Side::Second, second)?;
+    let w = walk(first, second, from);
+    Ok(concluded(step(first, w.reach.first, second, w.reach.second), w))
+}
+
+// The trace that ends first is the prefix, so the other one is longer.
+// Kept (point 4): what a walk tells of likeness and ends are two `Option`s, and a crate can give std's type no methods.
+pub fn longer_of(likeness: Option<Likeness>, ends: Option<Ends>) -> Option<Side>
     ensures { result ≡ longer_by likeness ends }
 {
-    match likeness {
-        Likeness::Prefix => longer_by(ends),
-        Likeness::Equal => Longer::Neither,
-        Likeness::Different => Longer::Neither,
-        Likeness::Untold => Longer::Neither,
+    match (likeness, ends) {
+        (Some(Likeness::Prefix), Some(ends)) => ends.side.map(Side::other),
+        _ => None,
+    }
+}
+
+// Beside an error no trace has a rest.
+fn longer(told: Result<Comparison, Error>) -> Option<Side>
+    ensures { result ≡ longer_of told }
+{
+    match told {
+        Ok(c) => longer_of(Some(c.likeness), Some(c.ends)),
+        Err(_) => None,
     }
 }
 
 // The remaining records of the longer trace, as a part of it; in every other case the empty rest of the first.
+#[tactic(auto, using(crate::proofs::Theorems::the_longer_is_longer), unfolding(crate::specs::Compare::rest_of))]
 pub fn rest<'a>(first: &'a [u8], second: &'a [u8]) -> &'a [u8]
     ensures { result.now ≡ rest_of first.now second.now }
 {
-    let c = compare(first, second, 0);
-    let likeness = c.likeness;
-    let ends = c.ends;
-    match longer_of(likeness, ends) {
-        Longer::First => &first[second.len()..],
-        Longer::Second => &second[first.len()..],
-        Longer::Neither => &first[first.len()..],
+    match longer(compare(first, second, 0)) {
+        Some(Side::First) => &first[second.len()..],
+        Some(Side::Second) => &second[first.len()..],
+        None => &first[first.len()..],
     }
 }

@@ -1,143 +1,119 @@
 // Both traces: one step over a place in each, and the walk from step to step.
-ghost use Rattle.std.specs.Prelude.{◌≡◌, cond, ◌+◌, ◌^◌, ◌≤◌, ◌<◌, leb, length, take, drop};
-ghost use Rattle.comparison.specs.Compare.{extent_at, same_bytes, step_at, is_pair, else_difference, passed, at_start, walked};
+ghost use Rattle.std.specs.Prelude.{◌≡◌, Ok, Some, ◌+◌, ◌^◌, ◌≤◌, ◌<◌, length};
+ghost use Rattle.trace.specs.Extents.{extent_at};
+ghost use Rattle.comparison.specs.Compare.{found_by, pair_at, step_at, is_pair, advanced, noted, passed, reach_at_start, at_start, walked};
 
 use crate::one::extent;
-use crate::{Difference, Extent, Side, Step, Walk};
+use crate::{Difference, Error, Pair, Reach, Side, Step, Walk, Whole};
 
-// Do so many bytes agree from a place in each?
-fn same_bytes(first: &[u8], p: usize, second: &[u8], q: usize, count: usize) -> bool
-    requires { (p + count ≤ length first.now) × (q + count ≤ length second.now) }
-    ensures { result ≡ same_bytes (take count (drop p first.now)) (take count (drop q second.now)) }
+// What stands at a place of this trace, or its error.
+// Kept (point 2): as `error_by`, which hands on no record; one function under both would have a contract for each use.
+fn found(side: Side, trace: &[u8], at: usize) -> Result<Option<Whole>, Error>
+    ensures { result ≡ found_by side at (extent_at trace.now at) }
 {
-    let mut i = 0;
-    while i < count {
-        if first[p + i] != second[q + i] {
-            return false;
-        }
-        i += 1;
-    }
-    true
+    extent(trace, at).map_err(|refusal| Error {
+        side,
+        refusal,
+        place: at,
+    })
 }
 
-// Two whole records. Kinds that agree fix one length, so only then bytes are compared.
-fn pair(first: &[u8], p: usize, k: u8, p1: usize, second: &[u8], q: usize, l: u8, q1: usize) -> Step
-    requires { (extent_at first.now p ≡ Extent.Whole k p1) × (extent_at second.now q ≡ Extent.Whole l q1) }
+// One step over both places. An error of the first trace is told before one of the second.
+#[tactic(auto, unfolding(crate::specs::Compare::step_at, crate::specs::Compare::step_by))]
+pub fn step(first: &[u8], p: usize, second: &[u8], q: usize) -> Result<Step, Error>
     ensures { result ≡ step_at first.now p second.now q }
 {
-    if k != l {
-        return Step::Differs(k, l, p1, q1);
-    }
-    if same_bytes(first, p, second, q, p1 - p) {
-        return Step::Same(p1, q1);
-    }
-    Step::Differs(k, l, p1, q1)
-}
-
-// One step over both places.
-pub fn step(first: &[u8], p: usize, second: &[u8], q: usize) -> Step
-    ensures { result ≡ step_at first.now p second.now q }
-{
-    let d = extent(first, p);
-    let e = extent(second, q);
-    match d {
-        Extent::Refused(x) => Step::Refused(Side::First, x),
-        Extent::End => match e {
-            Extent::Refused(x) => Step::Refused(Side::Second, x),
-            Extent::End => Step::BothEnd,
-            Extent::Whole(_, _) => Step::FirstEnds,
-        },
-        Extent::Whole(k, p1) => match e {
-            Extent::Refused(x) => Step::Refused(Side::Second, x),
-            Extent::End => Step::SecondEnds,
-            Extent::Whole(l, q1) => pair(first, p, k, p1, second, q, l, q1),
-        },
+    let here = found(Side::First, first, p)?;
+    let there = found(Side::Second, second, q)?;
+    match (here, there) {
+        (Some(one), Some(other)) => Ok(Step::Pair(Pair {
+            first: one,
+            second: other,
+            same: first[p..one.next] == second[q..other.next],
+        })),
+        (Some(_), None) => Ok(Step::Over(Some(Side::Second))),
+        (None, Some(_)) => Ok(Step::Over(Some(Side::First))),
+        (None, None) => Ok(Step::Over(None)),
     }
 }
 
-pub fn is_pair(s: Step) -> bool
+pub fn is_pair(s: Result<Step, Error>) -> bool
     ensures { result ≡ is_pair s }
 {
-    match s {
-        Step::Same(_, _) => true,
-        Step::Differs(_, _, _, _) => true,
-        Step::FirstEnds => false,
-        Step::SecondEnds => false,
-        Step::BothEnd => false,
-        Step::Refused(_, _) => false,
-    }
+    matches!(s, Ok(Step::Pair(_)))
 }
 
-// The first difference from the number asked on: one that was found before stays.
-fn noted(from: usize, w: Walk, k: u8, l: u8) -> Difference
-    ensures { result ≡ else_difference w.difference (cond (leb from w.number) (Difference.At w.number k l) Difference.Nothing) }
-{
-    let found = w.difference;
-    let number = w.number;
-    match found {
-        Difference::At(_, _, _) => found,
-        Difference::Nothing => {
-            if from <= number {
-                Difference::At(number, k, l)
-            } else {
-                Difference::Nothing
-            }
+impl Reach {
+    // The beginning of both.
+    pub fn start() -> Reach
+        ensures { result ≡ reach_at_start }
+    {
+        Reach {
+            number: 0,
+            first: 0,
+            second: 0,
+            alike: true,
+        }
+    }
+
+    // Behind a pair.
+    #[tactic(auto, unfolding(crate::specs::Compare::advanced))]
+    pub fn past(self, pair: Pair) -> Reach
+        requires { self.number + 1 < 2 ^ 64 }
+        ensures { result ≡ advanced (Ok (Step.Pair pair)) self }
+    {
+        Reach {
+            number: self.number + 1,
+            first: pair.first.next,
+            second: pair.second.next,
+            alike: self.alike && pair.same,
         }
     }
 }
 
-// The walk behind a step. Where there was no pair it stays.
-fn pass(from: usize, s: Step, w: Walk) -> Walk
-    requires { w.number + 1 < 2 ^ 64 }
-    ensures { result ≡ passed from s w }
-{
-    match s {
-        Step::Same(p, q) => {
-            let difference = w.difference;
-            Walk {
-                number: w.number + 1,
-                first: p,
-                second: q,
-                difference,
-                alike: w.alike,
-            }
+impl Walk {
+    // The first difference from the number asked on: one that was found before stays.
+    fn noted(self, from: usize, pair: Pair) -> Option<Difference>
+        ensures { result ≡ noted from pair self }
+    {
+        let number = self.reach.number;
+        if pair.same || number < from {
+            return self.difference;
         }
-        Step::Differs(k, l, p, q) => Walk {
-            number: w.number + 1,
-            first: p,
-            second: q,
-            difference: noted(from, w, k, l),
-            alike: false,
-        },
-        Step::FirstEnds => w,
-        Step::SecondEnds => w,
-        Step::BothEnd => w,
-        Step::Refused(_, _) => w,
+        self.difference.or(Some(Difference {
+            number,
+            first: pair.first.kind,
+            second: pair.second.kind,
+        }))
     }
-}
 
-fn at_start() -> Walk
-    ensures { result ≡ at_start }
-{
-    Walk {
-        number: 0,
-        first: 0,
-        second: 0,
-        difference: Difference::Nothing,
-        alike: true,
+    // Behind a pair.
+    #[tactic(auto, unfolding(crate::specs::Compare::passed))]
+    fn past(self, from: usize, pair: Pair) -> Walk
+        requires { self.reach.number + 1 < 2 ^ 64 }
+        ensures { result ≡ passed from (Ok (Step.Pair pair)) self }
+    {
+        Walk {
+            reach: self.reach.past(pair),
+            difference: self.noted(from, pair),
+        }
     }
 }
 
 // From the beginning of both to where one has no record any more.
+#[tactic(auto, using(crate::proofs::Laws::Steps::walk_here, crate::proofs::Laws::Steps::walk_on_lem, crate::proofs::Laws::Steps::a_pair_goes_on), unfolding(crate::specs::Compare::walked))]
 pub fn walk(first: &[u8], second: &[u8], from: usize) -> Walk
     ensures { result ≡ walked first.now second.now from }
 {
-    let mut w = at_start();
+    let mut w = Walk {
+        reach: Reach::start(),
+        difference: None,
+    };
     loop {
-        let s = step(first, w.first, second, w.second);
-        if !is_pair(s) {
-            return w;
+        match step(first, w.reach.first, second, w.reach.second) {
+            Ok(Step::Pair(pair)) => w = w.past(from, pair),
+            Ok(Step::Over(_)) => return w,
+            Err(_) => return w,
         }
-        w = pass(from, s, w);
     }
 }

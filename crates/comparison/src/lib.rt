@@ -8,6 +8,8 @@ pub mod both;
 pub mod one;
 
 use rules::refusals::Refusal;
+pub use trace::decoder::Whole;
+use trace::kind::Kind;
 
 #[derive(Clone, Copy)]
 pub enum Side {
@@ -15,20 +17,26 @@ pub enum Side {
     Second,
 }
 
-// The first record that differs, with the kinds on both sides.
+// One of each side.
 #[derive(Clone, Copy)]
-pub enum Difference {
-    At(usize, u8, u8),
-    Nothing,
+pub struct Sides<T> {
+    pub first: T,
+    pub second: T,
 }
 
-// Which trace ends first, and after how many records.
+// The first record that differs, with the kinds on both sides.
 #[derive(Clone, Copy)]
-pub enum Ends {
-    First(usize),
-    Second(usize),
-    Neither(usize),
-    Untold,
+pub struct Difference {
+    pub number: usize,
+    pub first: Kind,
+    pub second: Kind,
+}
+
+// Which trace ends first, or neither, and after how many records.
+#[derive(Clone, Copy)]
+pub struct Ends {
+    pub side: Option<Side>,
+    pub records: usize,
 }
 
 #[derive(Clone, Copy)]
@@ -36,60 +44,52 @@ pub enum Likeness {
     Equal,
     Prefix,
     Different,
-    Untold,
 }
 
 // Which trace has an error, which one, and where the record begins that has it.
 #[derive(Clone, Copy)]
-pub enum Error {
-    At(Side, Refusal, usize),
-    Nothing,
+pub struct Error {
+    pub side: Side,
+    pub refusal: Refusal,
+    pub place: usize,
 }
 
-// Beside an error there is no difference and no end, and nothing is said of likeness.
+// What is told of two traces without errors.
 #[derive(Clone, Copy)]
 pub struct Comparison {
-    pub error: Error,
-    pub difference: Difference,
+    pub difference: Option<Difference>,
     pub ends: Ends,
     pub likeness: Likeness,
 }
 
-// Which trace has a rest: the longer one, where the other is a prefix of it.
+// A whole record of each trace, and whether both are the same.
 #[derive(Clone, Copy)]
-pub enum Longer {
-    First,
-    Second,
-    Neither,
+pub struct Pair {
+    pub first: Whole,
+    pub second: Whole,
+    pub same: bool,
 }
 
-// What stands at a place: a whole record of this kind with the place behind it, the end, or why there is no record.
-#[derive(Clone, Copy)]
-pub enum Extent {
-    Whole(u8, usize),
-    End,
-    Refused(Refusal),
-}
-
-// What stands at a place of each trace: the same record in both, with the places behind it; two that differ, with their
-// kinds; or no two records.
+// What stands at a place of each trace: two records, or none any more in one or both, and which then ends first.
 #[derive(Clone, Copy)]
 pub enum Step {
-    Same(usize, usize),
-    Differs(u8, u8, usize, usize),
-    FirstEnds,
-    SecondEnds,
-    BothEnd,
-    Refused(Side, Refusal),
+    Pair(Pair),
+    Over(Option<Side>),
 }
 
-// How far a walk over both has come: how many records are passed, the places behind them, the first difference from the
-// number asked on, and whether all that was passed is the same.
+// How far a walk over both has come: how many records are passed, the places behind them, and whether all that was passed is
+// the same.
 #[derive(Clone, Copy)]
-pub struct Walk {
+pub struct Reach {
     pub number: usize,
     pub first: usize,
     pub second: usize,
-    pub difference: Difference,
     pub alike: bool,
+}
+
+// A walk over both: how far it has come, and the first difference from the number asked on.
+#[derive(Clone, Copy)]
+pub struct Walk {
+    pub reach: Reach,
+    pub difference: Option<Difference>,
 }

@@ -10,8 +10,9 @@ ghost use Rattle.rules.specs.Invariant.{SoundPrice, SoundModel};
 use crate::PAGE_BYTES;
 use rules::budget::Row;
 use rules::cost::{Bio, Model, Price};
-use rules::refusals::{Costing, Refusal};
+use rules::refusals::Refusal;
 use rules::units::Abs;
+use units::ceil_div;
 
 // "Bytes are 512 to .."
 const SECTOR_BYTES: u32 = 512;
@@ -29,6 +30,10 @@ const NEAR_MOST: u64 = 32768;
 // "Cost .. at most 2^31".
 const COST_MOST: u64 = 2147483648;
 
+// Kept (point 1): flags are one byte, as a trace's record has it: `Cost.bio_in_range` judges its number, and `record_bytes`
+// writes it.
+// Kept (point 2): each of the two bits has the rules' word for it, and one line; a const parameter for the bit would say
+// neither.
 fn is_write(bio: Bio) -> bool
     ensures { result ≡ is_write bio }
 {
@@ -51,7 +56,7 @@ pub fn is_flush(bio: Bio) -> bool
 fn bytes_in_range(bytes: u32) -> bool
     ensures { result ≡ bytes_in_range bytes }
 {
-    (SECTOR_BYTES <= bytes) & (bytes <= BYTES_MOST) & (bytes % SECTOR_BYTES == 0)
+    (SECTOR_BYTES..=BYTES_MOST).contains(&bytes) & (bytes % SECTOR_BYTES == 0)
 }
 
 // A flush "is no longer refused for its bytes".
@@ -67,11 +72,7 @@ fn in_range(bio: Bio) -> bool
 fn is_near(sector: u64, end: u64) -> bool
     ensures { result ≡ is_near sector end }
 {
-    if sector < end {
-        end - sector <= NEAR_MOST
-    } else {
-        sector - end <= NEAR_MOST
-    }
+    sector.abs_diff(end) <= NEAR_MOST
 }
 
 // "A leaf's first is .."
@@ -86,13 +87,13 @@ pub fn end_of(bio: Bio) -> u64
     requires { bio.sector ≤ 2 ^ 48 }
     ensures { result ≡ end_of bio }
 {
-    bio.sector + (bio.bytes / SECTOR_BYTES) as u64
+    bio.sector + u64::from(bio.bytes / SECTOR_BYTES)
 }
 
 fn pages(bytes: u32) -> u64
     ensures { result ≡ ceil_of bytes page_bytes }
 {
-    (bytes as u64 + (PAGE_BYTES - 1)) / PAGE_BYTES
+    ceil_div(u64::from(bytes), PAGE_BYTES)
 }
 
 fn base_of(price: Price, sequential: bool) -> Abs
@@ -124,6 +125,8 @@ fn cost_at(price: Price, sequential: bool, bytes: u32) -> Abs
     Abs(base.0 + price.page.0 * pages(bytes))
 }
 
+// Kept (point 5): model, row and bio are what the rules' `cost_of` and `costing` take; a struct of them would be made for each
+// bio, and opened in the next line.
 // The cost, before anything is refused. Request Four: a flush "costs one write page, with no base", wherever its leaf's
 // last bio ended.
 fn cost_by_rule(model: Model, row: Row, bio: Bio) -> Abs
@@ -139,19 +142,17 @@ fn cost_by_rule(model: Model, row: Row, bio: Bio) -> Abs
 }
 
 // The cost of a bio of a leaf whose books are `row`, in constant time.
-pub fn cost_of(model: Model, row: Row, bio: Bio) -> Costing
+pub fn cost_of(model: Model, row: Row, bio: Bio) -> Result<Abs, Refusal>
     requires { SoundModel model }
     ensures value { result ≡ costing model row bio }
     ensures number { costing_paper result ≡ paper_of (cost_checks model row bio) ((cost_of model row bio).0 ∷ []) }
 {
-    if in_range(bio) {
-        let cost = cost_by_rule(model, row, bio);
-        if cost.0 <= COST_MOST {
-            Costing::Costs(cost)
-        } else {
-            Costing::Refused(Refusal::TooDear)
-        }
-    } else {
-        Costing::Refused(Refusal::BadBio)
+    if !in_range(bio) {
+        return Err(Refusal::BadBio);
     }
+    let cost = cost_by_rule(model, row, bio);
+    if COST_MOST < cost.0 {
+        return Err(Refusal::TooDear);
+    }
+    Ok(cost)
 }

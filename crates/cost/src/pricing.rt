@@ -8,7 +8,7 @@ ghost use Rattle.rules.specs.Entries.{pricing};
 
 use crate::PAGE_BYTES;
 use rules::cost::{Model, Price, Rates};
-use rules::refusals::{Pricing, Refusal};
+use rules::refusals::Refusal;
 use rules::units::Abs;
 use units::ceil_div;
 
@@ -27,13 +27,13 @@ const IOPS_MOST: u64 = 1000000000;
 fn bps_in_range(bps: u64) -> bool
     ensures { result ≡ bps_in_range bps }
 {
-    (BPS_LEAST <= bps) & (bps <= BPS_MOST)
+    (BPS_LEAST..=BPS_MOST).contains(&bps)
 }
 
 fn iops_in_range(iops: u64) -> bool
     ensures { result ≡ iops_in_range iops }
 {
-    (IOPS_LEAST <= iops) & (iops <= IOPS_MOST)
+    (IOPS_LEAST..=IOPS_MOST).contains(&iops)
 }
 
 fn rates_in_range(rates: Rates) -> bool
@@ -47,6 +47,8 @@ fn rates_in_range(rates: Rates) -> bool
         & iops_in_range(rates.wrandiops)
 }
 
+// Kept (point 5): a type of rates in range would hold one number, be made at six places of `price` and be opened at once;
+// `rates_in_range` says all six.
 // "Page cost = CEIL(10^9 .."
 fn page_cost(bps: u64) -> Abs
     requires { (0 < bps) × (bps ≤ 2 ^ 40) }
@@ -61,11 +63,7 @@ fn base_cost(page: Abs, iops: u64) -> Abs
     ensures { result ≡ abs (ceil_of second iops - page.0) }
 {
     let each = ceil_div(SECOND, iops);
-    if page.0 < each {
-        Abs(each - page.0)
-    } else {
-        Abs(0)
-    }
+    Abs(each.saturating_sub(page.0))
 }
 
 // One direction's price: the page cost is worked out once for both bases.
@@ -82,15 +80,14 @@ fn price_of(bps: u64, seqiops: u64, randiops: u64) -> Price
 }
 
 // Price a model.
-pub fn price(rates: Rates) -> Pricing
+pub fn price(rates: Rates) -> Result<Model, Refusal>
     ensures value { result ≡ pricing rates }
     ensures number { pricing_paper result ≡ paper_of (rate_checks rates) (model_values (priced rates)) }
 {
-    if rates_in_range(rates) {
-        let read = price_of(rates.rbps, rates.rseqiops, rates.rrandiops);
-        let write = price_of(rates.wbps, rates.wseqiops, rates.wrandiops);
-        Pricing::Priced(Model { read, write })
-    } else {
-        Pricing::Refused(Refusal::BadRate)
+    if !rates_in_range(rates) {
+        return Err(Refusal::BadRate);
     }
+    let read = price_of(rates.rbps, rates.rseqiops, rates.rrandiops);
+    let write = price_of(rates.wbps, rates.wseqiops, rates.wrandiops);
+    Ok(Model { read, write })
 }

@@ -5,7 +5,7 @@ use mathlib.Core.Bool.{Bool, true, false, cond, not, ◌&&◌}
 use mathlib.Core.List.{List}
 use mathlib.Core.Logic.{dite, ◌≢◌}
 use Prim.Native.Nat.{ℕ, zero, suc, ◌+◌, ◌-◌, ◌*◌, ◌^◌, ◌≤◌, ◌<◌}
-use native.Mathlib.Nat.{add-zero, lt_of_not-le, le_of_suc-le-suc, mul-le-mul_left, mul-le-mul_right, div-le_of_le-mul}
+use native.Mathlib.Nat.{add-zero, lt_of_not-le, le_of_suc-le-suc, mul-le-mul_right, div-le_of_le-mul}
 use native.Mathlib.Decide.{dec_lt}
 use native.Mathlib.Omega.{arith}
 use lib.Dec.{eqb}
@@ -30,10 +30,6 @@ nothing_more false = refl
 -- a difference of two results is that of what they are
 pub sub_same : {a b x y : ℕ} → a ≡ x → b ≡ y → a - b ≡ x - y
 sub_same p q = rw (p, q)
-
--- a base share by what is left
-pub product_fits : (base left : ℕ) → base < 2 ^ 32 → left ≤ whole → base * left < 2 ^ 64
-product_fits base left l m = let h : base * left ≤ base * whole = mul-le-mul_left base m in omega arith
 
 -- a set with a member is not 0
 member_pos : (s n : ℕ) → has s n ≡ true → 0 < s
@@ -60,11 +56,11 @@ module _ (active donors : ℕ) where
   both_some others fits e d same = rw (same, ← some_leaf donors fits d, ← some_taker e)
 
   -- ---- one leaf's share before what remains is handed out
-  module _ {left kept : ℕ} {bases : List ℕ} (p : Parts active donors left kept bases) (n : ℕ) (node : n < nodes_most) where
+  module _ {left kept : ℕ} {bases : List ℕ} (small : left ≤ whole) (p : Parts active donors kept bases) (n : ℕ) (node : n < nodes_most) where
     pub quotient_fits : (d a : Bool) → d ≡ has donors n → a ≡ has active n → d ≡ false → a ≡ true → floor_of (get_or bases n 0 * left) kept < 2 ^ 32
     quotient_fits d a e f i j =
         let h : get_or bases n 0 * left ≤ kept * left = mul-le-mul_right left (p.base_kept n node (is_taker_lem active donors n (sym f ∙ j) (sym e ∙ i))) in
-        omega (arith, div-le_of_le-mul kept h, p.left_most)
+        omega (arith, div-le_of_le-mul kept h, small)
 
   pub share_floored : (left kept : ℕ) (bases targets : List ℕ) (n r : ℕ) (d a : Bool) → d ≡ has donors n → a ≡ has active n
       → r ≡ cond d (get_or targets n 0) (cond a (floor_of (get_or bases n 0 * left) kept) 0)
@@ -149,8 +145,11 @@ module _ {active donors : ℕ} {bases targets : List ℕ} (d : Donation active d
     some_kept : 0 < kept
     some_kept = omega (arith, one_based, base_kept taker.0 (omega (arith, taker.2)) taker.3)
 
-    pub parts : Parts active donors left kept bases
-    parts = record { left_most = left_most; some_kept = some_kept; base_kept = base_kept }
+    pub quota : (left ≤ whole) × (0 < kept)
+    quota = (left_most, some_kept)
+
+    pub parts : Parts active donors kept bases
+    parts = record { base_kept = base_kept }
 
     -- the shares before what remains is handed out
     abbrev floor_at : ℕ → ℕ

@@ -21,10 +21,8 @@ pub record Donation (active donors : ℕ) (bases targets : List ℕ) : Type 0 wh
   pub sum_most : sum_over (has active) bases ≤ whole
   pub donates : is_donation active donors ≡ true
 
--- what a quotient for each taker asks of left and kept, which stand for S - T and S - D: a taker's base share is within kept
-pub record Parts (active donors left kept : ℕ) (bases : List ℕ) : Type 0 where
-  pub left_most : left ≤ whole
-  pub some_kept : 0 < kept
+-- what a quotient for each taker asks of kept, which stands for S - D: a taker's base share is within it
+pub record Parts (active donors kept : ℕ) (bases : List ℕ) : Type 0 where
   pub base_kept : (n : ℕ) → n < nodes_most → is_taker active donors n ≡ true → get_or bases n 0 ≤ kept
 
 -- ---- base shares of a tree that is not thin meet it, with donors whose targets are below them

@@ -1,9 +1,9 @@
 // The words that a program was started with, of which the first is its own name. A word is bytes, and need not be text.
-ghost use Rattle.std.specs.Prelude.{◌≤◌, length, IfOk};
+ghost use Rattle.std.specs.Prelude.{◌≡◌, ◌≤◌, ◌↔◌, true, [], ◌∷◌, length, IfOk};
 
-use crate::failure;
+use crate::failure::Trouble;
 use std::env::{Env, FillError};
-use std::io::Error;
+use std::io::Result;
 
 pub fn count(rt: &impl Env) -> usize {
     let mut first = [0u8; 1];
@@ -15,13 +15,17 @@ pub fn count(rt: &impl Env) -> usize {
     usize::MAX
 }
 
-// Puts the word at a place at the front of the buffer, and answers its length.
-pub fn word(rt: &impl Env, place: usize, buf: &mut [u8]) -> Result<usize, Error>
-    ensures { IfOk result (λ n. n ≤ length buf.new) }
+// The word at a place, which is put at the front of the buffer.
+pub fn word<'a>(rt: &impl Env, place: usize, buf: &'a mut [u8]) -> Result<&'a mut [u8]>
+    ensures { IfOk result (λ w. length w.now ≤ length buf.old) }
 {
-    match rt.arg(place, buf) {
-        Ok(count) => Ok(count),
-        Err(FillError::TooLong) => Err(failure::too_long()),
-        Err(FillError::NotPresent) => Err(failure::missing()),
-    }
+    let count = rt.arg(place, buf).map_err(Trouble::from)?;
+    Ok(&mut buf[..count])
+}
+
+// Does this word name standard input?
+pub fn is_input(name: &[u8]) -> bool
+    ensures { (result ≡ true) ↔ (name.now ≡ 45 ∷ []) }
+{
+    name == b"-".as_slice()
 }

@@ -1,42 +1,73 @@
 // Why a call failed, as far as the programs ask: by the system's numbers where std has no name, and by what a person can do
 // about it.
+ghost use Rattle.std.specs.Prelude.{◌≡◌};
+
+use std::env::FillError;
 use std::io::{Error, ErrorKind};
 
 const NO_SUCH_DEVICE: i32 = 6;
 
 const CLOSED: i32 = 9;
 
-const INVALID: i32 = 22;
-
-const NO_PLACE: i32 = 29;
-
-const TOO_LONG: i32 = 36;
-
 const NO_TEXT: i32 = 84;
 
-// A descriptor that is closed, or open for something else.
-pub fn closed() -> Error {
-    Error::from_raw_os_error(CLOSED)
+// What the programs find out by themselves, and say as the system would.
+#[derive(Clone, Copy)]
+pub enum Trouble {
+    // A descriptor that is closed, or open for something else.
+    Closed,
+    // What has no place to read from: its bytes come once.
+    NoPlace,
+    // A word that is not there.
+    Missing,
+    // A word that no buffer holds: no file has so long a name.
+    TooLong,
+    // A name that is not UTF-8, which no path can be.
+    NoText,
 }
 
-// What has no place to read from: its bytes come once.
-pub(crate) fn no_place() -> Error {
-    Error::from_raw_os_error(NO_PLACE)
+impl Trouble {
+    // Kept (point 1): these are the system's numbers: three have no kind in std, and `said` says a failure by the system's text
+    // for its number, which an error that is made of a kind does not have.
+    fn number(self) -> i32 {
+        match self {
+            Trouble::Closed => CLOSED,
+            Trouble::NoPlace => 29,
+            Trouble::Missing => 22,
+            Trouble::TooLong => 36,
+            Trouble::NoText => NO_TEXT,
+        }
+    }
 }
 
-// A word that is not there.
-pub(crate) fn missing() -> Error {
-    Error::from_raw_os_error(INVALID)
+impl From<Trouble> for Error {
+    fn from(trouble: Trouble) -> Error {
+        Error::from_raw_os_error(trouble.number())
+    }
 }
 
-// A word that no buffer holds: no file has so long a name.
-pub(crate) fn too_long() -> Error {
-    Error::from_raw_os_error(TOO_LONG)
+impl From<FillError> for Trouble {
+    fn from(why: FillError) -> Trouble {
+        match why {
+            FillError::NotPresent => Trouble::Missing,
+            FillError::TooLong => Trouble::TooLong,
+        }
+    }
 }
 
-// A name that is not UTF-8, which no path can be.
-pub(crate) fn no_text() -> Error {
-    Error::from_raw_os_error(NO_TEXT)
+// What a call moved before it failed, and why it did.
+#[derive(Clone, Copy)]
+pub struct Short {
+    pub count: usize,
+    pub why: Error,
+}
+
+impl From<Short> for Error {
+    ghost from_gives = { λ short why. why ≡ short.why };
+
+    fn from(short: Short) -> Error {
+        short.why
+    }
 }
 
 // Bytes that come only once, as those of a pipe, a terminal or a socket, which is not even opened once more.
@@ -51,29 +82,32 @@ pub fn is_unread(why: Error) -> bool {
 
 // What a person can do where a file cannot be read.
 #[derive(Clone, Copy)]
-pub enum Remedy {
+pub(crate) enum Remedy {
     NameAnother,
     MakeReadable,
     Rename,
-    Unknown,
 }
 
-fn by_number(why: Error) -> Remedy {
-    match why.raw_os_error() {
-        Some(CLOSED) => Remedy::NameAnother,
-        Some(NO_TEXT) => Remedy::Rename,
-        _ => Remedy::Unknown,
+impl Remedy {
+    fn by_number(why: Error) -> Option<Remedy> {
+        match why.raw_os_error() {
+            Some(CLOSED) => Some(Remedy::NameAnother),
+            Some(NO_TEXT) => Some(Remedy::Rename),
+            _ => None,
+        }
     }
-}
 
-pub fn remedy_for(why: Error) -> Remedy {
-    match why.kind() {
-        ErrorKind::NotFound
-        | ErrorKind::NotADirectory
-        | ErrorKind::IsADirectory
-        | ErrorKind::InvalidFilename
-        | ErrorKind::FilesystemLoop => Remedy::NameAnother,
-        ErrorKind::PermissionDenied => Remedy::MakeReadable,
-        _ => by_number(why),
+    // The remedy, where one is known.
+    // Kept (point 4): no `From`, since some errors have no remedy.
+    pub(crate) fn of(why: Error) -> Option<Remedy> {
+        match why.kind() {
+            ErrorKind::NotFound
+            | ErrorKind::NotADirectory
+            | ErrorKind::IsADirectory
+            | ErrorKind::InvalidFilename
+            | ErrorKind::FilesystemLoop => Some(Remedy::NameAnother),
+            ErrorKind::PermissionDenied => Some(Remedy::MakeReadable),
+            _ => Remedy::by_number(why),
+        }
     }
 }

@@ -11,18 +11,14 @@ use lib.Seq.{length-take-le, take-suc-set, drop-set-lt, drop-drop}
 use borrow.Author.Tests.{ltb-false}
 use Rattle.rules.specs.Units.{abs}
 use Rattle.rules.specs.Budget.{popped, oldest_id, oldest_cost, charged, owes, fits}
-use Rattle.rules.specs.Tick.{Release, no_release, and_capped, gained, repayment, repaid, release_in, capped, lent_after}
+use Rattle.rules.specs.Tick.{Release, no_release, repayment, repaid, release_in, lent_after}
 use Rattle.rules.proofs.Laws.Queues.{popped_sound, oldest_cost_most}
 use Rattle.rules.proofs.Laws.Rows.{repayment_of_nothing}
 use Rattle.rules.specs.declared.units.Abs.{Abs}
-use Rattle.rules.specs.declared.units.Virt.{Virt}
 use Rattle.rules.specs.declared.budget.Row.{Row}
 use Rattle.rules.specs.declared.budget.Queue.{Queue}
-use Rattle.leaf.specs.Fit.{CanRelease, Priced, Payable, cheap_is_priced, fitting_is_payable}
-use Rattle.leaf.specs.Alone.{capped_with}
-use Rattle.leaf.specs.Turns.{is_due, settled_of, cut, Releases}
-use Rattle.leaf.specs.declared.tick.Settled.{Settled}
-use Rattle.leaf.specs.declared.tick.Left.{Left}
+use Rattle.leaf.specs.Fit.{CanRelease}
+use Rattle.leaf.specs.Turns.{cut, Releases}
 
 -- a release that goes on after some ids were written
 abbrev pub and_then : List ℕ → Release → Release
@@ -72,17 +68,10 @@ begins share row queue out ready room =
 
 module _ {share : ℕ} {row₀ : Row} {queue₀ : Queue} {out₀ : List ℕ} {row : Row} {queue : Queue} {out : List ℕ} {count : ℕ}
     (going : Going share row₀ queue₀ out₀ row queue out count) where
-  pub first_is_priced : {cost : Abs} → cost ≡ oldest_cost queue → Priced cost share
-  first_is_priced e = rw e (cheap_is_priced going.ready.held (oldest_cost_most queue going.ready.waiting))
-
   -- what the test says of the cost that was read is said of the oldest
   pub first_told : {cost : Abs} {fit told : Bool} → cost ≡ oldest_cost queue → fit ≡ fits cost share row → fit ≡ told
       → fits (oldest_cost queue) share row ≡ told
   first_told e f t = ap (λ (cost : Abs). fits cost share row) (sym e) ∙ sym f ∙ t
-
-  pub first_is_payable : {cost : Abs} → cost ≡ oldest_cost queue → fits (oldest_cost queue) share row ≡ true → Payable cost share row
-  first_is_payable e f =
-      rw e (fitting_is_payable going.ready.held (oldest_cost_most queue going.ready.waiting) (omega arith) f)
 
   one_more : 0 < queue.len → fits (oldest_cost queue) share row ≡ true
       → Going share row₀ queue₀ out₀ (charged (oldest_cost queue) share row) (popped queue) (set out count (oldest_id queue)) (count + 1)
@@ -105,27 +94,22 @@ module _ {share : ℕ} {row₀ : Row} {queue₀ : Queue} {out₀ : List ℕ} {ro
             ∙ rw (add-one count, take-suc-set out count (oldest_id queue) inside, append_assoc);
       }
 
-  pub goes_on : {cost : Abs} {id head : ℕ} {next : Row} → 0 < queue.len → fits (oldest_cost queue) share row ≡ true
+  pub goes_on : {cost : Abs} {id head at len : ℕ} {next : Row} → 0 < queue.len → fits (oldest_cost queue) share row ≡ true
       → cost ≡ oldest_cost queue → id ≡ oldest_id queue → next ≡ charged cost share row → head ≡ (popped queue).head
-      → Going share row₀ queue₀ out₀ next (cut queue head (queue.len - 1)) (set out count id) (count + 1)
-  goes_on some f e i n h = rw (n, h, i, e) (one_more some f)
+      → len ≡ queue.len - 1 → at ≡ count
+      → Going share row₀ queue₀ out₀ next (cut queue head len) (set out at id) (count + 1)
+  goes_on some f e i n h l a = rw (n, h, i, e, l, a) (one_more some f)
 
-  pub ends : release_in queue.len share row queue ≡ no_release row queue
-      → Releases (release_in queue₀.len share row₀ queue₀) out₀ (record { row = row; head = queue.head; len = queue.len; count = count }) out
+  pub ends : release_in queue.len share row queue ≡ no_release row queue → {len told : ℕ} → len ≡ queue.len → told ≡ count
+      → Releases (release_in queue₀.len share row₀ queue₀) out₀ (record { row = row; head = queue.head; len = len; count = told }) out
   unfolding lent_after
-  ends e =
+  ends e l t =
       let size : length (take count out) ≡ count = length-take-le count out (omega (arith, going.room, going.size)) in
       let all : release_in queue₀.len share row₀ queue₀ ≡ record { row = row; queue = queue; ids = take count out } =
       going.whole ∙ ap (and_then (take count out)) e ∙ rw append-nil in (
-        rw (all, size),
+        rw (l, t, all, size),
         rw (all, size, ← going.behind) (sym (take-append-drop count out)),
       )
-
--- ---- the cap is the last of a turn
-pub then_capped : (t : Release) (out : List ℕ) {after : List ℕ} {l : Left} {row : Row} → Releases t out l after → row ≡ capped_with l.row l.len
-    → Releases (and_capped t) out (record { row = row; head = l.head; len = l.len; count = l.count }) after
-unfolding capped
-then_capped t out w e = (rw (e, w.0), w.1)
 
 -- ---- the row alone, stage by stage
 -- who owes nothing repays nothing
@@ -133,8 +117,3 @@ pub nothing_owed : (share : ℕ) (row : Row) → owes row ≡ false → (row ≡
 unfolding repaid
 nothing_owed share row e =
     (rw e, ap abs (sym (repayment_of_nothing share row (omega (arith, ltb-false 0 row.debt.0 e)))))
-
-pub settles : (gain : Virt) (share : ℕ) (row : Row) (waiting : ℕ) {more paid next : Row} {p : Abs} {due : Bool}
-    → more ≡ gained gain row → p ≡ repayment share more → paid ≡ repaid share more → next ≡ capped_with paid waiting → due ≡ is_due paid waiting
-    → ◌≡◌ {A = Settled} (record { row = next; repaid = p; due = due }) (settled_of gain share row waiting)
-settles gain share row waiting m r p n d = rw (n, d, p, r, m)

@@ -3,17 +3,8 @@
 // another leaf, of the tree or of the clock.
 #![tactic(auto)]
 
-ghost use Rattle.std.specs.Prelude.{◌≡◌, min};
-
 pub mod plan;
 mod queue;
 pub mod row;
 pub mod submission;
 pub mod tick;
-
-// "the smaller of .."
-fn smaller(a: u64, b: u64) -> u64
-    ensures { result ≡ min a b }
-{
-    if a < b { a } else { b }
-}

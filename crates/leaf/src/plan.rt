@@ -10,6 +10,7 @@ use rules::budget::{Controller, Row};
 use rules::units::{Abs, Virt};
 
 // "FLOOR(d / 2) is .."
+#[tactic(auto, unfolding(rules::specs::Plan::forgiveness))]
 fn forgiveness(quiet: bool, debt: Abs) -> Abs
     ensures { result ≡ forgiveness_of quiet debt }
 {
@@ -17,12 +18,15 @@ fn forgiveness(quiet: bool, debt: Abs) -> Abs
 }
 
 // "each debt d becomes .."
+// Kept (point 5): `quiet` is one word for a whole plan, and `stay` is worked out of a row once this was done to it.
+#[tactic(auto, unfolding(rules::specs::Plan::forgiveness))]
 pub fn forgiven(quiet: bool, row: Row) -> Row
     ensures { result ≡ forgiven_of quiet row }
 {
-    let debt = row.debt;
-    let part = forgiveness(quiet, debt);
-    row::with_debt(Abs(debt.0 - part.0), row)
+    Row {
+        debt: Abs(row.debt.0 - forgiveness(quiet, row.debt).0),
+        ..row
+    }
 }
 
 // A leaf that does not stay active loses its budget.
@@ -32,7 +36,10 @@ fn rested(stay: bool, row: Row) -> Row
     if stay {
         row
     } else {
-        row::with_budget(Virt(0), row)
+        Row {
+            budget: Virt(0),
+            ..row
+        }
     }
 }
 
@@ -40,63 +47,56 @@ fn rested(stay: bool, row: Row) -> Row
 pub fn plan_row(quiet: bool, stay: bool, row: Row) -> Row
     ensures { result ≡ restarted (rested_of stay (forgiven_of quiet row)) }
 {
-    let mut planned = rested(stay, forgiven(quiet, row));
-    let usage = Abs(0);
-    planned.usage = usage;
-    planned.accepted = false;
-    planned
+    Row {
+        usage: Abs(0),
+        accepted: false,
+        ..rested(stay, forgiven(quiet, row))
+    }
 }
 
 // "A leaf with no ..": any other stays.
 pub fn stays(row: Row, waiting: u8) -> bool
     ensures { result ≡ stays_with row waiting }
 {
-    if row.accepted {
-        return true;
-    }
-    if 0 < waiting {
-        return true;
-    }
-    row::owes(row)
+    row.accepted || 0 < waiting || row::owes(row)
 }
 
-// "let u = CEIL(min(usage .."
-fn used_share(since: Virt, usage: Abs) -> u64
-    requires { (0 < since.0) × (since.0 ≤ since_most) }
-    ensures { result ≡ used_share since usage }
-{
-    let used = units::at_whole(usage);
-    let counted = crate::smaller(used.0, since.0);
-    units::ceil_div(counted * Controller::WHOLE, since.0)
+// E, the virtual time since the last plan, where a plan is due: what a leaf used is held against it.
+#[derive(Clone, Copy)]
+pub struct Elapsed {
+    pub since: Virt,
+    ghost some: { 0 < since.0 },
+    ghost most: { since.0 ≤ since_most },
 }
 
-// "target = max(1,024, u .."
-pub fn target_of(since: Virt, usage: Abs) -> u64
-    requires { (0 < since.0) × (since.0 ≤ since_most) }
-    ensures { result ≡ target_of since usage }
-{
-    // Of no usage u is 0, so that nothing is divided.
-    if usage.0 == 0 {
-        return Controller::SHARE_FLOOR;
+impl Elapsed {
+    // "let u = CEIL(min(usage .."
+    #[tactic(auto, unfolding(rules::specs::Plan::used_share))]
+    fn used_share(self, usage: Abs) -> u64
+        ensures { result ≡ used_share self.since usage }
+    {
+        let counted = units::at_whole(usage).0.min(self.since.0);
+        units::ceil_div(counted * Controller::WHOLE, self.since.0)
     }
-    let used = used_share(since, usage);
-    let target = used + used / 4;
-    if target < Controller::SHARE_FLOOR {
-        Controller::SHARE_FLOOR
-    } else {
-        target
+
+    // "target = max(1,024, u .."
+    #[tactic(auto, unfolding(rules::specs::Plan::target_of, rules::specs::Plan::used_share))]
+    pub fn target_of(self, usage: Abs) -> u64
+        ensures { result ≡ target_of self.since usage }
+    {
+        // Of no usage u is 0, so that nothing is divided.
+        if usage.0 == 0 {
+            return Controller::SHARE_FLOOR;
+        }
+        let used = self.used_share(usage);
+        (used + used / 4).max(Controller::SHARE_FLOOR)
     }
 }
 
 // "It is a donor if .."
+#[tactic(auto, unfolding(rules::specs::Plan::is_donor))]
 pub fn is_donor(target: u64, base: u64, row: Row, waiting: u8) -> bool
     ensures { result ≡ is_donor_with target base row waiting }
 {
-    if row::owes(row) {
-        return false;
-    }
-    if 0 < waiting {
-        return false;
-    }
-    target < base
+    !row::owes(row) && waiting == 0 && target < base
 }

@@ -9,18 +9,13 @@ use rules::units::Abs;
 // The room of a queue, in the width of its head.
 const ROOM: u8 = Controller::QUEUE_ROOM as u8;
 
-// A place of the ring as an index.
-pub(crate) fn place(at: u8) -> usize
-    ensures { result ≡ at }
-{
-    at as usize
-}
-
+// Kept (point 5): a queue is a type of rules, and only rules can give it methods. That its head and its length are below its
+// room is asked here: as an invariant of the type it would shut out `length_only`, by which the rules say a length.
 pub(crate) fn pushed(id: u32, cost: Abs, mut queue: Queue) -> Queue
     requires { (queue.head < queue_room) × (queue.len < queue_room) }
     ensures { result ≡ pushed_of id cost queue }
 {
-    let at = (place(queue.head) + place(queue.len)) % Controller::QUEUE_ROOM;
+    let at = (usize::from(queue.head) + usize::from(queue.len)) % Controller::QUEUE_ROOM;
     queue.ids[at] = id;
     queue.costs[at] = cost;
     queue.len = queue.len + 1;

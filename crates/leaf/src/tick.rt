@@ -16,6 +16,8 @@ const IDLE_CAP: u64 = 134217728;
 
 // A leaf before anything is released: its row, what it repaid, and whether bios that wait are due. With none due, its turn
 // is over.
+// Kept (point 1): the row stands whether bios are due or not, so that an `Option` of it would say nothing of a turn that is
+// over.
 #[derive(Clone, Copy)]
 pub struct Settled {
     pub row: Row,
@@ -38,76 +40,73 @@ fn gained(gain: Virt, row: Row) -> Row
     requires { row.budget.0 + gain.0 < 2 ^ 64 }
     ensures { result ≡ gained_of gain row }
 {
-    row::with_budget(Virt(row.budget.0 + gain.0), row)
+    Row {
+        budget: Virt(row.budget.0 + gain.0),
+        ..row
+    }
 }
 
 // "p = the smaller .."
+#[tactic(auto, unfolding(rules::specs::Tick::repayment))]
 fn repayment(share: u64, row: Row) -> Abs
-    requires { row.budget.0 * share < 2 ^ 64 }
+    requires { CanRepay share row }
     ensures { result ≡ repayment_of share row }
 {
-    let budget = row.budget;
-    let able = units::repayable(budget, share);
-    Abs(crate::smaller(row.debt.0, able.0))
+    Abs(row.debt.0.min(units::repayable(row.budget, share).0))
 }
 
 // "if it owes, it repays p, and the budget falls by ..": the caller asks whether it owes.
+#[tactic(auto, using(rules::proofs::Laws::Rows::repayment_most, crate::specs::Fit::repayment_is_payable), unfolding(rules::specs::Tick::repaid))]
 fn repaid(p: Abs, share: u64, row: Row) -> Row
     requires { CanRepay share row × (p ≡ repayment_of share row) × (owes_of row ≡ true) }
     ensures { result ≡ repaid_of share row }
 {
-    let left = Abs(row.debt.0 - p.0);
-    row::with_debt(left, row::charged(p, share, row))
+    Row {
+        debt: Abs(row.debt.0 - p.0),
+        ..row::charged(p, share, row)
+    }
 }
 
 // "waiting bios are released .."
-fn release_fitting(share: u64, mut row: Row, queue: Queue, out: &mut [u32]) -> Left
-    requires { CanRelease share row queue × (queue.len ≤ length out.old) }
-    ensures { Releases (release_in queue.len share row queue) out.old result out.new }
+fn release_fitting(share: u64, mut row: Row, queue: &Queue, out: &mut [u32]) -> Left
+    requires { CanRelease share row queue.now × (queue.now.len ≤ length out.old) }
+    ensures { Releases (release_in queue.now.len share row queue.now) out.old result out.new }
 {
     let mut head = queue.head;
-    let mut len = queue.len;
-    let mut count: usize = 0;
-    while 0 < len {
-        let oldest = queue::place(head);
+    for count in 0..queue.len {
+        let oldest = usize::from(head);
         let cost = queue.costs[oldest];
-        if row::fits(cost, share, row) {
-            out[count] = queue.ids[oldest];
-            row = row::charged(cost, share, row);
-            head = queue::behind(head);
-            len -= 1;
-            count += 1;
-        } else {
+        if !row::fits(cost, share, row) {
             return Left {
                 row,
                 head,
-                len,
-                count,
+                len: queue.len - count,
+                count: usize::from(count),
             };
         }
+        out[usize::from(count)] = queue.ids[oldest];
+        row = row::charged(cost, share, row);
+        head = queue::behind(head);
     }
     Left {
         row,
         head,
-        len,
-        count,
+        len: 0,
+        count: usize::from(queue.len),
     }
 }
 
 // "last, if it owes nothing and nothing waits, a budget above 2^27 .."
+#[tactic(auto, unfolding(rules::specs::Tick::capped))]
 fn capped(row: Row, waiting: u8) -> Row
     ensures { result ≡ capped_with row waiting }
 {
-    if row::owes(row) {
+    if row::owes(row) || 0 < waiting {
         return row;
     }
-    if 0 < waiting {
-        return row;
-    }
-    if IDLE_CAP < row.budget.0 {
-        row::with_budget(Virt(IDLE_CAP), row)
-    } else {
-        row
+    Row {
+        budget: Virt(row.budget.0.min(IDLE_CAP)),
+        ..row
     }
 }
 
@@ -115,10 +114,11 @@ fn capped(row: Row, waiting: u8) -> Row
 fn is_due(row: Row, waiting: u8) -> bool
     ensures { result ≡ is_due row waiting }
 {
-    if row::owes(row) { false } else { 0 < waiting }
+    !row::owes(row) && 0 < waiting
 }
 
 // "Then for each active leaf, ..", as far as it concerns the row: the queue of a leaf with nothing due is not looked at.
+#[tactic(auto, using(crate::specs::Fit::gain_fits, crate::specs::Fit::gained_can_repay, crate::proofs::Release::nothing_owed))]
 pub fn settle(gain: Virt, share: u64, row: Row, waiting: u8) -> Settled
     requires { FitRow share row × (gain.0 ≤ gain_most) }
     ensures { result ≡ settled_of gain share row waiting }
@@ -137,14 +137,13 @@ pub fn settle(gain: Virt, share: u64, row: Row, waiting: u8) -> Settled
     }
 }
 
-// The rest of a leaf's turn, where bios are due.
-pub fn released(share: u64, row: Row, queue: Queue, out: &mut [u32]) -> Left
-    requires { CanRelease share row queue × (queue.len ≤ length out.old) }
-    ensures { Releases (and_capped (release_in queue.len share row queue)) out.old result out.new }
+// The rest of a leaf's turn, where bios are due. The queue is lent: to copy it takes longer than most turns.
+#[tactic(auto, unfolding(rules::specs::Tick::capped))]
+pub fn released(share: u64, row: Row, queue: &Queue, out: &mut [u32]) -> Left
+    requires { CanRelease share row queue.now × (queue.now.len ≤ length out.old) }
+    ensures { Releases (and_capped (release_in queue.now.len share row queue.now)) out.old result out.new }
 {
     let mut left = release_fitting(share, row, queue, out);
-    let row = left.row;
-    let row = capped(row, left.len);
-    left.row = row;
+    left.row = capped(left.row, left.len);
     left
 }

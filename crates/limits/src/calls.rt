@@ -1,63 +1,38 @@
-// One call and its line. A state goes from call to call, and stays sound.
+// One call on a state that is lent, which stays sound, and what its line says.
 ghost use Rattle.rules.specs.Invariant.{Sound};
 
-use crate::say;
+use crate::say::{Answered, Given, Ticked, Written};
 use rules::budget::Controller;
-use rules::cost::{Bio, Rates};
+use rules::cost::Bio;
 use rules::trace::Record;
-use rules::tree::Tree;
 
-pub(crate) fn start(rt: &impl Print, case: &[u8], tree: Tree, rates: Rates) -> Controller
-    ensures { Sound result }
+pub(crate) fn vrate(c: &mut Controller, v: u16) -> Answered
+    requires { Sound c.old }
+    ensures { Sound c.new }
 {
-    let done = controller::start::start(tree, rates, 0);
-    let answer = done.answer;
-    let state = done.state;
-    say::judged(rt, case, answer);
-    state
+    Answered(controller::start::pace(c, v).map(|_| Given::Nothing))
 }
 
-pub(crate) fn vrate(rt: &impl Print, case: &[u8], c: Controller, v: u16) -> Controller
-    requires { Sound c }
-    ensures { Sound result }
+pub(crate) fn submit(c: &mut Controller, bio: Bio) -> Answered
+    requires { Sound c.old }
+    ensures { Sound c.new }
 {
-    let done = controller::start::vrate(c, v);
-    let answer = done.answer;
-    let state = done.state;
-    say::judged(rt, case, answer);
-    state
+    Answered(submit::submit_to(c, bio).map(Given::Submitted))
 }
 
-pub(crate) fn submit(rt: &impl Print, case: &[u8], c: Controller, bio: Bio) -> Controller
-    requires { Sound c }
-    ensures { Sound result }
+pub(crate) fn tick<'a>(c: &mut Controller, time: u64, lent: &'a mut [u32]) -> Ticked<'a>
+    requires { Sound c.old }
+    ensures { Sound c.new }
 {
-    let done = submit::submit(c, bio);
-    let answer = done.answer;
-    let state = done.state;
-    say::submitted(rt, case, answer);
-    state
+    let answered = Answered(tick::pass(c, time, lent).map(Given::Released));
+    Ticked {
+        answered,
+        clock: c.clock,
+        lent,
+    }
 }
 
-pub(crate) fn tick(
-    rt: &impl Print,
-    case: &[u8],
-    c: Controller,
-    time: u64,
-    lent: &mut [u32],
-) -> Controller
-    requires { Sound c }
-    ensures { Sound result }
-{
-    let done = tick::tick(c, time, lent);
-    let answer = done.answer;
-    let state = done.state;
-    let clock = state.clock;
-    say::ticked(rt, case, answer, clock, lent);
-    state
-}
-
-pub(crate) fn write(rt: &impl Print, case: &[u8], r: Record, lent: &mut [u8]) {
-    let answer = trace::encoder::write_to(r, lent);
-    say::written(rt, case, answer, lent);
+pub(crate) fn write(r: Record, lent: &mut [u8]) -> Written<'_> {
+    let answered = Answered(trace::encoder::write_to(r, lent).map(Given::Wrote));
+    Written { answered, lent }
 }

@@ -1,98 +1,93 @@
-// A line for each call, on standard output: the case, what the call answered, and what it left. Nothing here knows which
-// answer is due.
+// What a line says of a call: what the call answered, and what it left. Nothing here knows which answer is due.
 use rules::budget::Clock;
-use rules::refusals::{Answer, Count, Refusal, Verdict};
-use rules::trace::Write;
+use rules::refusals::{Answer, Refusal};
+use std::fmt;
 
-fn words(rt: &impl Print, text: &[u8]) {
-    let _ = rt.write_all(text);
+// What a call gives where it is accepted.
+#[derive(Clone, Copy)]
+pub(crate) enum Given {
+    Nothing,
+    Submitted(Answer),
+    Released(usize),
+    Wrote(usize),
 }
 
-fn number(rt: &impl Print, n: u64) {
-    let _ = rt.print(n);
-}
-
-fn refusal(rt: &impl Print, x: Refusal) {
-    words(rt, b"R ");
-    number(rt, lines::number_of(x));
-}
-
-// What is the same in each line.
-fn opening(rt: &impl Print, case: &[u8]) {
-    words(rt, case);
-    words(rt, b": ");
-}
-
-fn byte(rt: &impl Print, x: u8) {
-    words(rt, b" ");
-    number(rt, x as u64);
-}
-
-fn id(rt: &impl Print, x: u32) {
-    words(rt, b" ");
-    number(rt, x as u64);
-}
-
-fn bytes(rt: &impl Print, lent: &[u8]) {
-    for i in 0..lent.len() {
-        byte(rt, lent[i]);
-    }
-}
-
-fn ids(rt: &impl Print, lent: &[u32]) {
-    for i in 0..lent.len() {
-        id(rt, lent[i]);
-    }
-}
-
-pub(crate) fn judged(rt: &impl Print, case: &[u8], answer: Verdict) {
-    opening(rt, case);
-    match answer {
-        Verdict::Accepted => words(rt, b"accepted"),
-        Verdict::Refused(x) => refusal(rt, x),
-    }
-    words(rt, b"\n");
-}
-
-pub(crate) fn submitted(rt: &impl Print, case: &[u8], answer: Answer) {
-    opening(rt, case);
-    match answer {
-        Answer::Issued => words(rt, b"issued"),
-        Answer::Waits => words(rt, b"waits"),
-        Answer::OnDebt => words(rt, b"on debt"),
-        Answer::Refused(x) => refusal(rt, x),
-    }
-    words(rt, b"\n");
-}
-
-pub(crate) fn ticked(rt: &impl Print, case: &[u8], answer: Count, clock: Clock, lent: &[u32]) {
-    opening(rt, case);
-    match answer {
-        Count::Released(n) => {
-            words(rt, b"accepted, released ");
-            number(rt, n as u64);
+impl fmt::Display for Given {
+    fn fmt<W: fmt::Write>(&self, f: &mut fmt::Formatter<W>) -> fmt::Result {
+        match self {
+            Given::Nothing => write!(f, "accepted"),
+            Given::Submitted(Answer::Issued) => write!(f, "issued"),
+            Given::Submitted(Answer::Waits) => write!(f, "waits"),
+            Given::Submitted(Answer::OnDebt) => write!(f, "on debt"),
+            Given::Released(count) => write!(f, "accepted, released {count}"),
+            Given::Wrote(count) => write!(f, "wrote {count}"),
         }
-        Count::Refused(x) => refusal(rt, x),
     }
-    words(rt, b"; time ");
-    number(rt, clock.time);
-    words(rt, b", virtual time ");
-    number(rt, clock.vtime.0);
-    words(rt, b"; buffer");
-    ids(rt, lent);
-    words(rt, b"\n");
 }
 
-pub(crate) fn written(rt: &impl Print, case: &[u8], answer: Write, lent: &[u8]) {
-    opening(rt, case);
-    match answer {
-        Write::Wrote(n) => {
-            words(rt, b"wrote ");
-            number(rt, n as u64);
+// That, or the number of the refusal.
+#[derive(Clone, Copy)]
+pub(crate) struct Answered(pub(crate) Result<Given, Refusal>);
+
+impl fmt::Display for Answered {
+    fn fmt<W: fmt::Write>(&self, f: &mut fmt::Formatter<W>) -> fmt::Result {
+        match self.0 {
+            Ok(given) => write!(f, "{given}"),
+            Err(x) => write!(f, "R {}", lines::number_of(x)),
         }
-        Write::Refused(x) => refusal(rt, x),
     }
-    words(rt, b"; buffer");
-    bytes(rt, lent);
-    words(rt, b"\n");
+}
+
+// A lent buffer, place by place.
+#[derive(Drop)]
+struct Buffer<'a, T>(&'a [T]);
+
+impl<T: fmt::Display> fmt::Display for Buffer<'_, T> {
+    fn fmt<W: fmt::Write>(&self, f: &mut fmt::Formatter<W>) -> fmt::Result {
+        write!(f, "buffer")?;
+        for x in self.0 {
+            write!(f, " {x}")?;
+        }
+        Ok(())
+    }
+}
+
+// A tick, the clock that it leaves, and the buffer that it was lent.
+#[derive(Drop)]
+pub(crate) struct Ticked<'a> {
+    pub(crate) answered: Answered,
+    pub(crate) clock: Clock,
+    pub(crate) lent: &'a [u32],
+}
+
+impl fmt::Display for Ticked<'_> {
+    fn fmt<W: fmt::Write>(&self, f: &mut fmt::Formatter<W>) -> fmt::Result {
+        // Kept (point 4): a text's braces take a name and no field.
+        let time = self.clock.time;
+        let vtime = self.clock.vtime.0;
+        let buffer = Buffer(self.lent);
+        write!(
+            f,
+            "{}; time {time}, virtual time {vtime}; {buffer}",
+            self.answered
+        )
+    }
+}
+
+// A record that is written, and the buffer that is lent for it.
+#[derive(Drop)]
+pub(crate) struct Written<'a> {
+    pub(crate) answered: Answered,
+    pub(crate) lent: &'a [u8],
+}
+
+impl fmt::Display for Written<'_> {
+    fn fmt<W: fmt::Write>(&self, f: &mut fmt::Formatter<W>) -> fmt::Result {
+        write!(f, "{}; {}", self.answered, Buffer(self.lent))
+    }
+}
+
+// The line of a case, on standard output.
+pub(crate) fn line(rt: &impl Print, case: &str, said: &impl fmt::Display) {
+    let _ = println!(rt; "{case}: {said}");
 }

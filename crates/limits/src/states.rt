@@ -4,7 +4,7 @@ ghost use Rattle.rules.specs.Numbers.{vtime_most};
 ghost use Rattle.rules.specs.Invariant.{Sound};
 ghost use Rattle.rules.specs.Bench.Run.{aged as aged_to};
 
-use crate::calls;
+use crate::say::{Answered, Given, line};
 use rules::budget::Controller;
 use rules::cost::Rates;
 use rules::tree::Tree;
@@ -36,17 +36,16 @@ fn model_m() -> Rates {
 pub(crate) fn fresh(rt: &impl Print) -> Controller
     ensures { Sound result }
 {
-    calls::start(rt, b"start with two leaves", two_leaves(), model_m())
+    let done = controller::start::start(two_leaves(), model_m(), 0);
+    let answered = Answered(done.answer.map(|_| Given::Nothing));
+    line(rt, "start with two leaves", &answered);
+    done.state
 }
 
 // The same state at another virtual time, which may be any up to the limit.
-pub(crate) fn aged(mut c: Controller, vtime: u64) -> Controller
-    requires { Sound c × (vtime ≤ vtime_most) }
-    ensures { (result ≡ aged_to vtime c) × Sound result }
+pub(crate) fn age(c: &mut Controller, vtime: u64)
+    requires { Sound c.old × (vtime ≤ vtime_most) }
+    ensures { (c.new ≡ aged_to vtime c.old) × Sound c.new }
 {
-    let mut clock = c.clock;
-    let vtime = Virt(vtime);
-    clock.vtime = vtime;
-    c.clock = clock;
-    c
+    c.clock.vtime = Virt(vtime);
 }

@@ -1,23 +1,28 @@
 // The lines of the replay, as bytes at the front of a buffer that the caller lends: each function writes one kind of
 // line, leaves the rest of the buffer as it was, and answers how many bytes it wrote. What a line says is decided above.
+// Kept (point 4): Display would write through std's fmt::Write, which may answer an error; with room, as here, there is none.
+// Kept (point 5): the pages name these functions with a lent buffer and a count, by `Written` of the rules; each asks for the
+// room that its own lines take, and a writer that holds the buffer would ask for it too.
+// Kept (point 6): the buffer is the caller's, with no heap: what stands at its front is a count, as in `Written`.
 #![tactic(auto)]
 
-ghost use Rattle.std.specs.Prelude.{◌≡◌, [], ◌∷◌, ◌++◌, ◌+◌, ◌*◌, ◌≤◌, ◌<◌, length, take};
+ghost use Rattle.std.specs.Prelude.{◌≡◌, [], ◌∷◌, ◌++◌, ◌+◌, ◌*◌, ◌≤◌, ◌<◌, length};
 ghost use Rattle.rules.specs.Numbers.{refusal_room, id_room, share_room, shares_room};
 ghost use Rattle.rules.specs.Refusals.{fault_number, fault_node, number};
-ghost use Rattle.rules.specs.Replay.{digits, line, refusal_line, answer_line, release_lines, verdict_lines, leaf_line, share_lines_of};
+ghost use Rattle.rules.specs.Replay.{digits, numbers as numbers_of, line, refusal_line, answer_line, release_lines, verdict_lines, leaf_line, share_lines_of};
 ghost use Rattle.rules.specs.Buffers.{Written};
 
-use rules::refusals::{Answer, Refusal, Verdict};
+use rules::refusals::{Answer, Refusal};
 use rules::tree::Fault;
 use sets::has;
 
-// The number of each fault of a tree; one that has none is not refused.
+// The number of each fault of a tree.
+// Kept (points 1 and 4): cases that carry a node's number have none of their own to cast, and a `From` for u64 would be this
+// match again, without the word `fault_number` by which the pages and the rules know it.
 fn fault_number(f: Fault) -> u64
     ensures { result ≡ fault_number f }
 {
     match f {
-        Fault::Sound => 0,
         Fault::Count => 20,
         Fault::Parent(_) => 21,
         Fault::Weight(_) => 22,
@@ -26,15 +31,13 @@ fn fault_number(f: Fault) -> u64
 }
 
 // The node that it names.
+// Kept (point 1): "20 names node 0" (request Two), and `fault_node` of the rules says so: none of them names no node.
 fn fault_node(f: Fault) -> usize
     ensures { result ≡ fault_node f }
 {
     match f {
-        Fault::Sound => 0,
         Fault::Count => 0,
-        Fault::Parent(n) => n,
-        Fault::Weight(n) => n,
-        Fault::Level(n) => n,
+        Fault::Parent(n) | Fault::Weight(n) | Fault::Level(n) => n,
     }
 }
 
@@ -87,51 +90,55 @@ pub fn put_digits(n: u64, out: &mut [u8]) -> usize
     at + 2
 }
 
-// A number and the byte that ends it: a blank or a line feed.
-fn put_number(n: u64, end: u8, out: &mut [u8]) -> usize
+// A blank and a number.
+fn put_number(n: u64, out: &mut [u8]) -> usize
     requires { length (digits n) < length out.old }
-    ensures { Written (digits n ++ (end ∷ [])) result out.old out.new }
+    ensures { Written (32 ∷ digits n) result out.old out.new }
 {
-    let at = put_digits(n, out);
-    out[at] = end;
+    out[0] = b' ';
+    1 + put_digits(n, &mut out[1..])
+}
+
+// Each number behind a blank.
+pub fn put_numbers(numbers: &[u64], out: &mut [u8]) -> usize
+    requires { length (numbers_of numbers.now) ≤ length out.old }
+    ensures { Written (numbers_of numbers.now) result out.old out.new }
+{
+    let mut at: usize = 0;
+    for n in numbers {
+        at += put_number(*n, &mut out[at..]);
+    }
+    at
+}
+
+// A word and its numbers.
+pub fn put_worded(word: &[u8], numbers: &[u64], out: &mut [u8]) -> usize
+    requires { length word.now + length (numbers_of numbers.now) ≤ length out.old }
+    ensures { Written (word.now ++ numbers_of numbers.now) result out.old out.new }
+{
+    let at = word.len();
+    out[..at].copy_from_slice(word);
+    at + put_numbers(numbers, &mut out[at..])
+}
+
+// And as a line.
+pub fn put_line(word: &[u8], numbers: &[u64], out: &mut [u8]) -> usize
+    requires { length word.now + length (numbers_of numbers.now) < length out.old }
+    ensures { Written (word.now ++ numbers_of numbers.now ++ (10 ∷ [])) result out.old out.new }
+{
+    let at = put_worded(word, numbers, out);
+    out[at] = b'\n';
     at + 1
 }
 
-// A letter and the first number, which `end` ends.
-fn put_start(letter: u8, a: u64, end: u8, out: &mut [u8]) -> usize
-    requires { 2 + length (digits a) < length out.old }
-    ensures { Written (letter ∷ 32 ∷ (digits a ++ (end ∷ []))) result out.old out.new }
-{
-    out[0] = letter;
-    out[1] = b' ';
-    let count = put_number(a, end, &mut out[2..]);
-    2 + count
-}
-
-// A letter and one number.
-fn put_line1(letter: u8, a: u64, out: &mut [u8]) -> usize
-    requires { length (line letter (a ∷ [])) ≤ length out.old }
-    ensures { Written (line letter (a ∷ [])) result out.old out.new }
-{
-    put_start(letter, a, b'\n', out)
-}
-
-// A letter and two numbers.
-fn put_line2(letter: u8, a: u64, b: u64, out: &mut [u8]) -> usize
-    requires { length (line letter (a ∷ b ∷ [])) ≤ length out.old }
-    ensures { Written (line letter (a ∷ b ∷ [])) result out.old out.new }
-{
-    let at = put_start(letter, a, b' ', out);
-    let count = put_number(b, b'\n', &mut out[at..]);
-    at + count
-}
-
 // I, W, D or r, and an id: at most 13 bytes.
+// Kept (point 1): the letter is the byte that is written, as in `line` of the rules; an enum of letters would be turned into
+// it.
 fn put_id(letter: u8, id: u32, out: &mut [u8]) -> usize
     requires { id_room ≤ length out.old }
     ensures { Written (line letter (id ∷ [])) result out.old out.new × (result ≤ id_room) }
 {
-    put_line1(letter, id as u64, out)
+    put_line(&[letter], &[u64::from(id)], out)
 }
 
 // P, an active leaf and its share, at most 16 bytes; nothing of an inactive leaf.
@@ -140,7 +147,7 @@ fn put_leaf(active: u64, n: usize, share: u32, out: &mut [u8]) -> usize
     ensures { Written (leaf_line active n share) result out.old out.new × (result ≤ share_room) }
 {
     if has(active, n) {
-        return put_line2(b'P', n as u64, share as u64, out);
+        return put_line(b"P", &[n as u64, u64::from(share)], out);
     }
     0
 }
@@ -151,55 +158,61 @@ pub fn put_refusal(x: Refusal, out: &mut [u8]) -> usize
     ensures { Written (refusal_line x) result out.old out.new }
 {
     match x {
-        Refusal::BadTree(f) => put_line2(b'R', fault_number(f), fault_node(f) as u64, out),
-        _ => put_line1(b'R', number_of(x), out),
+        Refusal::BadTree(f) => put_line(b"R", &[fault_number(f), fault_node(f) as u64], out),
+        _ => put_line(b"R", &[number_of(x)], out),
     }
 }
 
 // What a submission prints.
-pub fn put_answer(answer: Answer, id: u32, out: &mut [u8]) -> usize
+// Kept (point 2): a function over any Result would take a closure that writes into `out`, and say less than these two arms.
+#[tactic(auto, unfolding(rules::specs::Replay::answer_line))]
+pub fn put_answer(answer: Result<Answer, Refusal>, id: u32, out: &mut [u8]) -> usize
     requires { refusal_room ≤ length out.old }
     ensures { Written (answer_line answer id) result out.old out.new }
 {
     match answer {
-        Answer::Issued => put_id(b'I', id, out),
-        Answer::Waits => put_id(b'W', id, out),
-        Answer::OnDebt => put_id(b'D', id, out),
-        Answer::Refused(x) => put_refusal(x, out),
+        Ok(Answer::Issued) => put_id(b'I', id, out),
+        Ok(Answer::Waits) => put_id(b'W', id, out),
+        Ok(Answer::OnDebt) => put_id(b'D', id, out),
+        Err(x) => put_refusal(x, out),
     }
 }
 
 // What a call prints that answers a verdict alone: nothing, if it was accepted.
-pub fn put_verdict(verdict: Verdict, out: &mut [u8]) -> usize
+#[tactic(auto, unfolding(rules::specs::Replay::verdict_lines))]
+pub fn put_verdict(verdict: Result<(), Refusal>, out: &mut [u8]) -> usize
     requires { refusal_room ≤ length out.old }
     ensures { Written (verdict_lines verdict) result out.old out.new }
 {
     match verdict {
-        Verdict::Accepted => 0,
-        Verdict::Refused(x) => put_refusal(x, out),
+        Ok(()) => 0,
+        Err(x) => put_refusal(x, out),
     }
 }
 
-// The first `count` ids, in the order of their release.
-pub fn put_releases(ids: &[u32], count: usize, out: &mut [u8]) -> usize
-    requires { (count ≤ length ids.now) × (13 * count ≤ length out.old) }
-    ensures { Written (release_lines (take count ids.now)) result out.old out.new }
+// Ids in the order of their release.
+pub fn put_releases(ids: &[u32], out: &mut [u8]) -> usize
+    requires { 13 * length ids.now ≤ length out.old }
+    ensures { Written (release_lines ids.now) result out.old out.new }
 {
     let mut at: usize = 0;
-    for i in 0..count {
-        at = at + put_id(b'r', ids[i], &mut out[at..]);
+    for id in ids {
+        at += put_id(b'r', *id, &mut out[at..]);
     }
     at
 }
 
 // What a plan prints: each active leaf with its share, by rising number. 63 lines of 16 bytes fit in 1,008.
+// Kept (point 2): as `put_releases` line behind line; a loop for both would be lent a closure that writes, of which the
+// contract could not say which bytes (`Written`).
 pub fn put_shares(active: u64, shares: &[u32; 64], out: &mut [u8]) -> usize
     requires { shares_room ≤ length out.old }
     ensures { Written (share_lines_of active shares.now) result out.old out.new }
 {
     let mut at: usize = 0;
-    for n in 1..64usize {
-        at = at + put_leaf(active, n, shares[n], &mut out[at..]);
+    // Kept (point 3): n is the number of a node, asked of the set and printed; enumerate would begin at the root.
+    for n in 1..shares.len() {
+        at += put_leaf(active, n, shares[n], &mut out[at..]);
     }
     at
 }

@@ -6,27 +6,25 @@ use Rattle.std.proofs.Common.{ap, arith}
 use Prim.Native.Nat.{ℕ, zero, suc, ◌+◌, ◌-◌, ◌≤◌, ◌<◌}
 use Rattle.std.proofs.Math.ListN.{length}
 use Rattle.rules.proofs.Laws.Bools.{true_not_false, is_false, and_left, and_not_left}
-use Rattle.comparison.specs.Compare.{is_pair}
+use Rattle.comparison.specs.Compare.{Stepped, is_pair, advanced}
 use Rattle.comparison.proofs.Laws.Steps.{Stepping, each_step}
-use Rattle.comparison.proofs.Laws.Steps.Stepping.{same, differ, first_ends, second_ends, both_end, first_broken, second_broken}
-use Rattle.comparison.specs.declared.Step.{Step}
-use Rattle.listing.specs.Listing.{line_by, advanced, step_in, Lines, none, before, goes_on, list_from, listed}
-use Rattle.listing.specs.declared.Begins.{Begins}
-use Rattle.listing.specs.declared.Reach.{Reach}
+use Rattle.comparison.proofs.Laws.Steps.Stepping.{pair, first_ends, second_ends, both_end, first_broken, second_broken}
+use Rattle.comparison.specs.declared.Reach.{Reach}
+use Rattle.listing.specs.Listing.{line_by, step_in, Lines, none, before, goes_on, list_from, listed}
+use Rattle.comparison.specs.declared.Sides.{Sides}
 
 module _ (here there : List ℕ) where
   -- a pair goes on in both parts, and stays inside
-  pub record Onward (s : Step) (r : Reach) : Type 0 where
+  pub record Onward (s : Stepped) (r : Reach) : Type 0 where
     pub first_on : r.first < (advanced s r).first
     pub first_in : (advanced s r).first ≤ length here
     pub second_on : r.second < (advanced s r).second
     pub second_in : (advanced s r).second ≤ length there
     pub counted : (advanced s r).number ≡ r.number + 1
 
-  goes_on_lem : (r : Reach) {s : Step} → Stepping here r.first there r.second s → is_pair s ≡ true → Onward s r
+  goes_on_lem : (r : Reach) {s : Stepped} → Stepping here r.first there r.second s → is_pair s ≡ true → Onward s r
   unfolding advanced
-  goes_on_lem r (same v w e) t = record { first_on = v.onward; first_in = v.within; second_on = w.onward; second_in = w.within; counted = refl }
-  goes_on_lem r (differ v w e) t = record { first_on = v.onward; first_in = v.within; second_on = w.onward; second_in = w.within; counted = refl }
+  goes_on_lem r (pair v w) t = record { first_on = v.onward; first_in = v.within; second_on = w.onward; second_in = w.within; counted = refl }
   goes_on_lem r (first_ends h w) t = absurd (true_not_false t refl)
   goes_on_lem r (second_ends v h) t = absurd (true_not_false t refl)
   goes_on_lem r (both_end h k) t = absurd (true_not_false t refl)
@@ -39,7 +37,7 @@ module _ (here there : List ℕ) where
   pub no_pair_left : (r : Reach) → length here ≤ r.first → is_pair (step_in here there r) ≡ false
   no_pair_left r h = is_false _ (λ t. let o = a_pair_goes_on r t in omega (arith, o.first_on, o.first_in))
 
-  module _ (b : Begins) where
+  module _ (b : Sides ℕ) where
     pub list_here : (f room : ℕ) (r : Reach) → goes_on (step_in here there r) room ≡ false → list_from f b here there room r ≡ none r
     unfolding list_from
     list_here zero room r e = refl

@@ -1,5 +1,4 @@
--- What the turns of the loops rest on: a set that is built node by node, one from which nodes are cleared, and how large a
--- target is.
+-- What the turns of the loops rest on: a set that is built node by node, and how large a target is.
 -- Assumes nothing.
 use mathlib.Core.Path.{◌≡◌, sym, ap, ◌∙◌}
 use mathlib.Core.Bool.{Bool, true, false, not, ◌&&◌, ◌||◌, and-true}
@@ -10,15 +9,26 @@ use native.Mathlib.Numerals.{add-one}
 use native.Mathlib.Decide.{ℕ_discrete, dec_lt}
 use native.Mathlib.Omega.{arith}
 use lib.Dec.{eqb, leb}
-use lib.Pow.{pow_mono}
 use borrow.Author.Tests.{le-leb, lt-leb, eq-eqb, ne_eqb}
+use Rattle.rules.proofs.Laws.Bools.{and_not_right, or_right, or_neither}
+use lib.Pow.{pow_mono}
 use Rattle.rules.specs.Numbers.{whole, nodes_most}
 use Rattle.rules.specs.Words.{has, set_to, set_of}
 use Rattle.rules.specs.Plan.{used_share, target_of}
-use Rattle.rules.proofs.Laws.Bools.{and_not_right, or_right, or_neither}
 use Rattle.rules.proofs.Laws.Sets.{set_small, set_cong, set_back, set_ext, has_set, has_past, has_set_of, set_of_fits, insert_here, insert_others}
 use Rattle.rules.proofs.Laws.Units.{ceil_least}
-use Rattle.plan.specs.Steps.{left_at}
+use lib.ListN.{length, get_or}
+use Rattle.rules.specs.Budget.{empty_row, empty_queue}
+use Rattle.rules.specs.Plan.{forgiven, stays}
+use Rattle.rules.proofs.Laws.Tables.{get_D_inside}
+use Rattle.rules.specs.declared.budget.Row.{Row}
+use Rattle.rules.specs.declared.budget.Queue.{Queue}
+use Rattle.leaf.specs.Alone.{length_only, stays_with, is_donor_with, donor_by_count}
+use Rattle.leaf.proofs.Sums.{sum_rest}
+use Rattle.plan.specs.Steps.{usage, usage_of, gives_at, keeps_at, left_at}
+use Rattle.std.specs.Prelude.{sum_by}
+use lib.ListN.{take, drop}
+use mathlib.Core.List.{List}
 use Rattle.rules.specs.declared.units.Abs.{Abs}
 use Rattle.rules.specs.declared.units.Virt.{Virt}
 
@@ -86,6 +96,34 @@ module _ (active : ℕ) (p : ℕ → Bool) where
 
         other : (k : ℕ) → k < nodes_most → k ≢ n → (has s k && not (eqb k n)) ≡ left_at active p (n + 1) k
         other k l apart = rw (ne_eqb k n apart, and-true, e) (has_set_of (left_at active p n) k l ∙ others k apart)
+
+-- ---- whether a node is inside, by the tests that the loops make: an idle leaf neither stays nor gives
+pub idle_goes : (active n : ℕ) (x : Bool) {b : Bool} → b ≡ has active n → b ≡ false → (has active n && x) ≡ false
+idle_goes active n x e f = rw (sym e ∙ f)
+
+-- whether a node stays, by what the loop makes of its row and its queue, which is read inside the list
+pub keeps_told : (quiet : Bool) (rows : List Row) (queues : List Queue) {n : ℕ} → length queues ≡ nodes_most → n < nodes_most
+    → {row : Row} {told : Bool} → row ≡ forgiven quiet (get_or rows n empty_row)
+    → told ≡ stays_with row (get_or queues n (length_only 0)).len → keeps_at quiet rows queues n ≡ told
+keeps_told quiet rows queues {n} full node {row} r t =
+    sym (t ∙ ap (λ (q : Queue). stays row q) (get_D_inside queues n (length_only 0) empty_queue (rw full node)) ∙ ap (λ (r : Row). stays r (get_or queues n empty_queue)) r)
+
+module _ (active : ℕ) (quiet : Bool) (rows : List Row) (queues : List Queue) {n : ℕ} (full : length queues ≡ nodes_most) (node : n < nodes_most)
+    {b : Bool} (e : b ≡ has active n) (on : b ≡ true) where
+  -- the queue that the code reads: inside the list, whatever stands past its end
+  queue_here : get_or queues n (length_only 0) ≡ get_or queues n empty_queue
+  queue_here = get_D_inside queues n (length_only 0) empty_queue (rw full node)
+
+  pub gives_told : (bases targets : List ℕ) {target base : ℕ} {row : Row} {told : Bool} → target ≡ get_or targets n 0 → base ≡ get_or bases n 0
+      → row ≡ forgiven quiet (get_or rows n empty_row)
+      → told ≡ is_donor_with target base row (get_or queues n (length_only 0)).len → gives_at active quiet bases targets rows queues n ≡ told
+  gives_told bases targets {target = target} {base = base} {row = row} a b r t =
+      rw (sym e ∙ on)
+      (sym (t ∙ sym (donor_by_count target base row (get_or queues n (length_only 0))) ∙ rw (queue_here, a, b, r)))
+
+-- ---- the usage of all leaves is that of all rows but the first
+pub usage_sums : (rows : List Row) → length rows ≡ nodes_most → sum_by usage (take 63 (drop 1 rows)) ≡ (usage_of rows).0
+usage_sums rows full = sum_rest usage rows empty_row 63 (omega arith)
 
 -- a leaf used the whole share at most, and its target is a quarter more
 used_most : (since : Virt) (usage : Abs) → 0 < since.0 → used_share since usage ≤ whole

@@ -1,39 +1,25 @@
--- What a question is handed is what the rule shows it: of a sound state any place may be handed on, and the place of a bio's books
--- serves for its node, whether the tree has that node or not.
+-- What a question is handed is what the rule shows it: the place of a bio's books serves for its node, whether the tree has that
+-- node or not.
 -- Assumes nothing.
 use mathlib.Core.Path.{◌≡◌, refl, sym, ap, ◌∙◌}
 use mathlib.Core.Bool.{Bool, true, false}
-use Prim.Native.Nat.{ℕ, ◌<◌}
-use Rattle.rules.specs.Numbers.{nodes_most}
+use Prim.Native.Nat.{ℕ}
 use Rattle.rules.specs.Words.{has}
 use Rattle.rules.specs.Tree.{is_leaf}
-use Rattle.rules.specs.Budget.{row_at, share_at, would_be}
-use Rattle.rules.specs.Refusals.{answer_paper, answer_values, paper_of, submit_checks}
-use Rattle.rules.specs.Question.{own_at, own_of, asked, question}
+use Rattle.rules.specs.Budget.{would_be}
+use Rattle.rules.specs.Refusals.{answer_paper, letters_of, paper_of, submit_checks}
+use Rattle.rules.specs.Question.{own_at, asked, question}
 use Rattle.rules.specs.Invariant.{Sound}
 use Rattle.rules.proofs.Laws.Trees.{leaves_are}
 use Rattle.rules.proofs.Laws.Questions.{question_on_paper}
 use Rattle.rules.specs.declared.cost.Bio.{Bio}
-use Rattle.rules.specs.declared.cost.Model.{Model}
 use Rattle.rules.specs.declared.budget.Own.{Own}
-use Rattle.rules.specs.declared.budget.Row.{Row}
 use Rattle.rules.specs.declared.budget.Controller.{Controller}
-use Rattle.rules.specs.declared.refusals.Answer.{Answer}
+use Rattle.rules.specs.Results.{Answered}
 use Rattle.rules.specs.declared.refusals.Ruling.{Ruling}
-use Rattle.leaf.specs.Fit.{active_is_fit}
 use Rattle.submit.specs.Decision.{place_of}
-use Rattle.submit.specs.OnLeaf.{CanRule}
-use Rattle.submit.proofs.Shapes.{model_is_sound}
 use Rattle.submit.proofs.Rulings.{no_leaf_ruled}
 use Rattle.submit.proofs.Decisions.{is_leaf_lem, at_leaf}
-use Rattle.question.specs.Handed.{CanHand}
-
-pub can_hand : {c : Controller} → Sound c → {n : ℕ} → n < nodes_most → CanHand n c.active c.model (share_at c n) (row_at c n)
-can_hand s {n} h = record { place = h; model = model_is_sound s; fit = λ a. (active_is_fit s n a).books }
-
-pub can_rule : (n leaves active : ℕ) (m : Model) (share : ℕ) (row : Row) (waiting : ℕ) {o : Own} → CanHand n active m share row
-    → o ≡ own_of n leaves active m share row waiting → CanRule o
-can_rule n leaves active m share row waiting can e = rw e (record { prices = can.model; fit = can.fit })
 
 -- ---- the bio's place
 module _ {c : Controller} (s : Sound c) (b : Bio) where
@@ -50,8 +36,8 @@ module _ {c : Controller} (s : Sound c) (b : Bio) where
       go false l = refused (own_at (place_of b) c) (own_at b.node c) (is_leaf_lem b s ∙ l) (ap (λ (k : ℕ). has k b.node) s.leaves ∙ leaves_are s.tree b.node ∙ l)
 
   -- so what is answered of the place is the question's answer, by the rule and on paper
-  pub answers : {r : Answer} → r ≡ asked b (own_at (place_of b) c)
-      → (r ≡ question b c) × (answer_paper r ≡ paper_of (submit_checks b c) (answer_values (would_be c b)))
+  pub answers : {r : Answered} → r ≡ asked b (own_at (place_of b) c)
+      → (r ≡ question b c) × (answer_paper r ≡ paper_of (submit_checks b c) (letters_of (would_be c b)))
   answers e =
       let told = e ∙ place_serves in
       (told, ap answer_paper told ∙ question_on_paper s b)

@@ -1,54 +1,34 @@
 -- What the proofs of a round share, stated of plain values: a run that ends, a read behind the bytes that wait, what is left
 -- at the front, and a round of these.
 -- Assumes nothing.
-use Rattle.std.proofs.Common.{◌≡◌, ℕ, ◌+◌, ◌-◌, ◌≤◌, true, false, List, [], ◌++◌, length, take, drop, sym, refl, ap, ◌∙◌, subst, append-nil, arith, length-append, length-drop, length-take, length-take-le, take_at, take-add, drop_at}
+use Rattle.std.proofs.Common.{◌≡◌, ℕ, ◌+◌, ◌-◌, ◌≤◌, Bool, true, false, List, [], ◌++◌, length, take, drop, sym, refl, ap, ◌∙◌, subst, append-nil, arith, length-append, length-drop, length-take, length-take-le, take_at, take-add, drop_at, Result, Ok, Err, OnOk}
 use Rattle.rules.specs.Chunks.{fed}
+use Rattle.rules.specs.Replay.{beginning}
 use Rattle.rules.specs.Invariant.{Playing}
 use Rattle.rules.specs.declared.replay.Fed.{Fed}
-use Rattle.rules.specs.declared.replay.Pause.{Pause}
-use Rattle.rules.specs.declared.replay.Pause.TheVariants.{Over, Bytes}
-use Rattle.replay.specs.Rounds.{Stands, waiting, Ended, part_of, Replayed, LeftOver, Onward, OneRound}
+use Rattle.rules.specs.declared.replay.Pause.TheVariants.{Over}
+use Rattle.replay.specs.Rounds.{Stands, waiting, part_of, Replayed, LeftOver, Onward, could_write, OneRound, Ends, FromTheBeginning}
+use Rattle.replay.specs.Rounds.Ends.{on, end}
 use Rattle.replay.specs.declared.rounds.Standing.{Standing}
-use Rattle.replay.specs.declared.rounds.End.{End}
-use Rattle.replay.specs.declared.rounds.End.TheVariants.{Over as EndOver, Unread, Unwritten}
+use Rattle.replay.specs.declared.rounds.Failure.{Failure}
 
--- a run that ends keeps what it has
-pub ends_so : {pause : Pause} {s r : Standing} {e : End} (chunk after : List ℕ) → Stands s (length chunk)
-    → take s.filled after ≡ take s.filled chunk → Ended e s r
-    → (e ≡ EndOver → pause ≡ Over) → Onward pause s chunk r after
-ends_so {pause} {s} {r} {e} chunk after h front q why =
+-- a run whose bytes that wait are untouched
+pub stays_so : {s : Standing} (chunk after : List ℕ) → Stands s (length chunk) → take s.filled after ≡ take s.filled chunk → Onward s chunk s after
+stays_so {s} chunk after h front =
     let size : length (take s.filled after) ≡ s.filled = ap length front ∙ length-take-le s.filled chunk h.1 in
     record {
-      stands = (subst Playing (sym q.0) h.0, omega (arith, q.1, size, length-take s.filled after));
-      put = q.2;
-      same = q.0;
+      stands = (h.0, omega (arith, size, length-take s.filled after));
+      put = refl;
+      same = refl;
       next = [];
-      behind = rw q.1 (front ∙ sym (append-nil (take s.filled chunk)));
-      ends = λ g x. why (sym q.3 ∙ x);
+      behind = front ∙ sym (append-nil (take s.filled chunk));
     }
 
--- it did not end well where it could not read or write
-pub unread_is_not_over : {pause : Pause} → Unread ≡ EndOver → pause ≡ Over
-unread_is_not_over e = cc
-
-pub unwritten_is_not_over : {pause : Pause} → Unwritten ≡ EndOver → pause ≡ Over
-unwritten_is_not_over e = cc
-
--- a run that goes on as it stands
-pub stays_so : {pause : Pause} {s : Standing} (chunk : List ℕ) → Stands s (length chunk) → s.going ≡ true
-    → Onward pause s chunk s chunk
-stays_so {pause} {s} chunk h on =
-    record { stands = h; put = refl; same = refl; next = []; behind = sym (append-nil (take s.filled chunk)); ends = λ g x. cc }
-
-pub paused_so : {pause p : Pause} {s r : Standing} {chunk after : List ℕ} → pause ≡ p → Onward p s chunk r after
-    → Onward pause s chunk r after
-paused_so {pause} {p} {s} {r} {chunk} {after} e o = subst (λ (q : Pause). Onward q s chunk r after) (sym e) o
-
 -- n of the bytes that a read left behind those that wait
-pub reads_so : {s r : Standing} (chunk ys rest : List ℕ) (n : ℕ) → Stands s (length chunk) → n ≤ length ys
-    → r.replay ≡ s.replay → r.filled ≡ s.filled + n → r.put ≡ s.put → r.going ≡ true
-    → Onward Bytes s chunk r (take s.filled chunk ++ (ys ++ rest))
-reads_so {s} {r} chunk ys rest n h l same filled put on =
+pub reads_so : {s t : Standing} (chunk ys rest : List ℕ) (n : ℕ) → Stands s (length chunk) → n ≤ length ys
+    → t.replay ≡ s.replay → t.filled ≡ s.filled + n → t.put ≡ s.put
+    → Onward s chunk t (take s.filled chunk ++ (ys ++ rest))
+reads_so {s} {t} chunk ys rest n h l same filled put =
     let front : List ℕ = take s.filled chunk in
     let size : length front ≡ s.filled = length-take-le s.filled chunk h.1 in
     let after : List ℕ = front ++ (ys ++ rest) in
@@ -61,7 +41,6 @@ reads_so {s} {r} chunk ys rest n h l same filled put on =
       same = same;
       next = next;
       behind = rw filled (take-add s.filled n after ∙ ap (λ (l : List ℕ). l ++ next) before);
-      ends = λ g x. cc;
     }
 
 -- what is left of the bytes that waited, at the front
@@ -76,18 +55,33 @@ left_in_front chunk after from to h l e =
     ∙ sym (ap (drop from) cut ∙ drop_at (take from chunk) part from (length-take-le from chunk (omega arith)))
 
 -- a round of its steps
-pub rounds : {s a r : Standing} {chunk mid after out₀ out : List ℕ} {f : Fed} {taken : ℕ} → Replayed s chunk out₀ out f
-    → LeftOver f taken s chunk a mid → Onward f.pause a mid r after → ((r.going ≡ false → r.end ≡ Unwritten → ⊥) → taken ≡ f.count)
-    → OneRound s chunk (length out₀) r after
+pub rounds : {s a b t : Standing} {chunk mid after out₀ out : List ℕ} {f : Fed} {r : Result Bool Failure} → Replayed s chunk out₀ out f
+    → LeftOver f s chunk a mid → b.replay ≡ a.replay → b.filled ≡ a.filled → Onward b mid t after → (could_write r ≡ true → b.put ≡ f.count)
+    → (r ≡ Ok true → f.pause ≡ Over) → OneRound s chunk (length out₀) r t after
 unfolding fed
-rounds {s} {a} {r} {chunk} {mid} {after} {out₀} p k o all-taken =
-    let all : r.replay ≡ (part_of s chunk (length out₀)).replay = o.same ∙ k.same ∙ ap (λ (f : Fed). f.replay) p.feeds.answers in
-    let left = k.left ∙ ap (λ (f : Fed). drop f.place (waiting s chunk)) p.feeds.answers in
+rounds {s} {a} {b} {t} {chunk} {mid} {after} {out₀} p k e g o all-taken ends =
+    let all : t.replay ≡ (part_of s chunk (length out₀)).replay = o.same ∙ e ∙ k.same ∙ ap (λ (f : Fed). f.replay) p.feeds.answers in
+    let left = ap (λ (n : ℕ). take n mid) g ∙ k.left ∙ ap (λ (f : Fed). drop f.place (waiting s chunk)) p.feeds.answers in
     record {
       stands = o.stands;
-      puts = λ h. o.put ∙ k.put ∙ all-taken h ∙ p.feeds.lines.0;
+      puts = λ h. o.put ∙ all-taken h ∙ p.feeds.lines.0;
       replayed = all;
       next = o.next;
       behind = o.behind ∙ ap (λ (l : List ℕ). l ++ o.next) left;
-      ends = λ g x. rw all (sym (ap (λ (f : Fed). f.pause) p.feeds.answers) ∙ o.ends g x);
+      ends = λ h. rw all (sym (ap (λ (f : Fed). f.pause) p.feeds.answers) ∙ ends h);
     }
+
+-- ---- a run of rounds, by what the last one answered
+pub goes_on : {s m t : Standing} {chunk mid after : List ℕ} {room : ℕ} {r : Result Bool Failure} {done : Bool} → OneRound s chunk room r m mid → r ≡ Ok done
+    → done ≡ false → Ends m mid t after → Ends s chunk t after
+goes_on {s} {m} {chunk = chunk} {mid} {room = room} k is e rest = on (subst (λ (q : Result Bool Failure). OneRound s chunk room q m mid) (is ∙ ap Ok e) k) rest
+
+pub is_over : {s t : Standing} {chunk after : List ℕ} {room : ℕ} {r : Result Bool Failure} {done : Bool} → OneRound s chunk room r t after → r ≡ Ok done
+    → done ≡ true → Ends s chunk t after
+is_over {s} {t} {chunk} {after} {room} k is e = end (subst (λ (q : Result Bool Failure). OneRound s chunk room q t after) (is ∙ ap Ok e) k)
+
+pub from_the_beginning : (r : Result (Unit {0}) Failure) (s t : Standing) (chunk after : List ℕ) → s.replay ≡ beginning → s.filled ≡ 0
+    → OnOk r (Ends s chunk t after) → OnOk r FromTheBeginning
+from_the_beginning (Ok done) s t chunk after b e h =
+    record { start = s; stop = t; chunk = chunk; after = after; begun = b; empty = e; ends = h }
+from_the_beginning (Err why) s t chunk after b e h = tt

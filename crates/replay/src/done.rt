@@ -1,13 +1,12 @@
 // The mark of a run that ended well.
-ghost use Rattle.replay.specs.Rounds.{Well};
+ghost use Rattle.std.specs.Prelude.{IsOk};
 
-use crate::rounds::End;
-use host::report::mark;
+use host::report::{Failed, mark};
 use std::rt::Files;
 
 // Writes the mark, for a run that ended well and no other.
-pub(crate) fn tell(rt: &impl Files, end: End)
-    requires { Well end }
+pub(crate) fn tell(rt: &impl Files, end: Result<(), Failed>)
+    requires { IsOk end }
 {
-    mark(rt, b"done\n");
+    let _ = mark(rt, "done\n");
 }

@@ -8,98 +8,77 @@ mod done;
 mod rounds;
 mod said;
 
-use host::arguments::{count, word};
-use host::descriptor::{Descriptor, open};
-use host::failure::is_unread;
-use host::report::{is_asked, mark};
-use host::said::is_watched;
-use rounds::{End, replay_from};
+use host::arguments::{count, is_input};
+use host::descriptor::open;
+use host::report::{Failed, is_asked, mark_unwritten, named};
+use rounds::{Failure, replay_from};
 use std::io::{Error, IsTerminal, Stdout};
 
-fn of_input(rt: &HostRuntime, to: &mut Descriptor<Stdout>) -> End {
-    let err = rt.stderr();
-    let input = rt.stdin();
-    if input.is_terminal() {
-        said::waits(err);
-    }
-    let mut from = Descriptor::new(input);
-    let end = replay_from(&mut from, to, err, is_watched(&err, &rt.stdout()));
-    match end {
-        End::Over => {}
-        End::Unread => said::input_unread(err, from.why()),
-        End::Unwritten => {}
-    }
-    end
-}
-
-fn is_input(name: &[u8]) -> bool {
-    if name.len() != 1 {
-        return false;
-    }
-    name[0] == b'-'
-}
-
-fn of_file(rt: &HostRuntime, place: usize, to: &mut Descriptor<Stdout>) -> End {
-    let err = rt.stderr();
-    let mut path = [0u8; 4096];
-    let length = match word(rt, place, &mut path) {
-        Ok(length) => length,
-        Err(why) => {
-            said::argument_unread(err, why);
-            return End::Unread;
+// Says that a trace could not be read; lines that could not be written are for `main` to say.
+fn told<F: FnOnce(Error)>(failure: Failure, unread: F) -> Failed
+    requires { (why : Error) → F.pre unread why }
+{
+    match failure {
+        Failure::Unread(why) => {
+            unread(why);
+            Failed::Said
         }
-    };
-    if is_input(&path[..length]) {
+        Failure::Unwritten(why) => Failed::Unwritten(why),
+    }
+}
+
+fn of_input(rt: &HostRuntime, to: &mut Stdout) -> Result<(), Failed> {
+    let speaker = said::speaker(rt);
+    let mut from = rt.stdin();
+    if from.is_terminal() {
+        said::waits(speaker);
+    }
+    let end = replay_from(&mut from, to, speaker.watcher(&rt.stdout()));
+    end.map_err(|failure| told(failure, |why| speaker.input_unread(why)))
+}
+
+fn of_path(rt: &HostRuntime, path: &[u8], to: &mut Stdout) -> Result<(), Failure> {
+    let mut from = open(rt, path).map_err(Failure::Unread)?;
+    replay_from(&mut from, to, said::speaker(rt).watcher(&rt.stdout()))
+}
+
+fn of_file(rt: &HostRuntime, place: usize, to: &mut Stdout) -> Result<(), Failed> {
+    let speaker = said::speaker(rt);
+    let mut buf = [0u8; 4096];
+    let path = named(rt, speaker, place, &mut buf)?;
+    if is_input(path) {
         return of_input(rt, to);
     }
-    let mut from = match open(rt, &path[..length]) {
-        Ok(from) => from,
-        Err(why) => {
-            said::file_unread(err, &mut path[..length], why);
-            return End::Unread;
-        }
-    };
-    let end = replay_from(&mut from, to, err, is_watched(&err, &rt.stdout()));
-    match end {
-        End::Over => {}
-        End::Unread => said::file_unread(err, &mut path[..length], from.why()),
-        End::Unwritten => {}
-    }
-    end
+    of_path(rt, path, to).map_err(|failure| told(failure, |why| speaker.file_unread(path, why)))
 }
 
 // What the arguments from this place on ask for.
-fn asked(rt: &HostRuntime, place: usize, to: &mut Descriptor<Stdout>) -> End {
+// Kept (point 5): a struct of host, place and output would be made in `main`, and opened in the two functions that read it.
+fn asked(rt: &HostRuntime, place: usize, to: &mut Stdout) -> Result<(), Failed> {
     let words = count(rt);
     if words <= place {
         return of_input(rt, to);
     }
     if words - place > 1 {
-        said::too_many(rt.stderr());
-        return End::Unread;
+        said::too_many(said::speaker(rt));
+        return Err(Failed::Said);
     }
     of_file(rt, place, to)
 }
 
-// Where nobody reads the lines any more, a caller that asked for a mark is told so by one, and says the rest itself.
-fn unwritten(rt: &HostRuntime, why: Error) {
-    if !is_unread(why) || !mark(rt, b"gone\n") {
-        said::output_unwritten(rt.stderr(), why);
-    }
-}
-
 fn main(rt: HostRuntime) {
-    let mut to = Descriptor::new(rt.stdout());
+    let speaker = said::speaker(&rt);
+    let mut to = rt.stdout();
     if !is_asked(&rt) {
-        if let End::Unwritten = asked(&rt, 1, &mut to) {
-            said::output_unwritten(rt.stderr(), to.why());
+        if let Err(Failed::Unwritten(why)) = asked(&rt, 1, &mut to) {
+            speaker.output_unwritten(why);
         }
         return;
     }
     let end = asked(&rt, 2, &mut to);
     match end {
-        End::Over => done::tell(&rt, end),
-        End::Unread => {}
-        End::Unwritten => unwritten(&rt, to.why()),
+        Ok(()) => done::tell(&rt, end),
+        Err(Failed::Said) => {}
+        Err(Failed::Unwritten(why)) => mark_unwritten(&rt, speaker, why),
     }
 }

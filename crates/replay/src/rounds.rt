@@ -3,31 +3,31 @@
 //
 // What is proved of each round (`specs/Rounds`): what it replays, which lines then stand at the front of the line buffer,
 // that the loop goes on only where its writes took as many bytes as these lines have, what waits after it, and that a run
-// ends well only where the replay is over. No contract can say which bytes a write takes or a read brings. So four things
-// are for a person to read: that `round` hands `write` the front of the line buffer, that `host::descriptor::write` and `read`
-// hand the system what they are lent, that `replay_from` begins at the beginning and goes from round to round, and that it
-// answers how its last round ended.
-ghost use Rattle.std.specs.Prelude.{◌≡◌, ◌≤◌, true, length};
+// ends well only behind rounds from the beginning on, by the last of which the replay is over. No contract can say which bytes
+// a write takes or a read brings, and so not that the rounds are those of this trace. So four things are for a person to read:
+// that `round` hands `write` the front of the line buffer, that `host::descriptor::write` and `read` hand the system what they
+// are lent, that `replay_from` begins at the beginning and goes from round to round, and that it answers how its last round
+// ended.
+ghost use Rattle.std.specs.Prelude.{◌≡◌, ◌≤◌, true, length, OnOk, Ok};
 ghost use Rattle.rules.specs.Invariant.{Playing};
-ghost use Rattle.replay.specs.Rounds.{Stands, Ended, Replayed, LeftOver, Onward, OneRound, ending_of};
+ghost use Rattle.replay.specs.Rounds.{Stands, Replayed, LeftOver, Onward, OneRound, Ends, FromTheBeginning};
 
-use crate::said;
-use host::descriptor::{Descriptor, TRIES, read, write};
-use host::said::no_progress;
+use host::descriptor::{TRIES, read, write};
+use host::said::{Watcher, clear, clear_before, show};
 use rules::replay::{Fed, Pause, Replay};
-use std::io::{Read, Stderr, Write};
+use std::io::{Error, ErrorKind, Read, Write};
 use steps::chunk::{beginning, carry, feed};
 
-// Why a run is over.
+// Why a run did not come to its end.
 #[derive(Clone, Copy)]
-pub(crate) enum End {
-    Over,
-    Unread,
-    Unwritten,
+pub(crate) enum Failure {
+    Unread(Error),
+    Unwritten(Error),
 }
 
 // Where a run stands. The first `filled` bytes of the chunk buffer wait to be replayed, and if `last`, no more will come
 // after them; `total` bytes were read so far, and the writes of the last round took `put` bytes of its lines.
+// Kept (point 6): the count stands beside the buffer since the project has no heap: what waits is the front of an array.
 #[derive(Clone, Copy)]
 pub(crate) struct Standing {
     pub replay: Replay,
@@ -35,160 +35,117 @@ pub(crate) struct Standing {
     pub last: bool,
     pub total: u64,
     pub put: usize,
-    pub going: bool,
-    pub end: End,
-}
-
-fn ended(s: Standing, end: End) -> Standing
-    ensures { Ended end s result }
-{
-    let replay = s.replay;
-    Standing {
-        replay,
-        filled: s.filled,
-        last: s.last,
-        total: s.total,
-        put: s.put,
-        going: false,
-        end,
-    }
-}
-
-fn wide(n: usize) -> u64 {
-    n as u64
-}
-
-// How many bytes were read so far, with those that came now. This is shown to a person at a terminal.
-fn total_with(total: u64, count: usize, err: Stderr, watched: bool) -> u64 {
-    let total = std::num::wrapping_add_u64(total, wide(count));
-    if watched {
-        said::progress(err, total);
-    }
-    total
 }
 
 // One read, whose bytes go behind those that wait.
+#[tactic(auto, using(crate::proofs::Round::stays_so))]
 fn more<R: Read>(
-    s: Standing,
-    from: &mut Descriptor<R>,
-    err: Stderr,
-    watched: bool,
+    s: &mut Standing,
+    from: &mut R,
+    watcher: Option<Watcher>,
     chunk: &mut [u8],
-) -> Standing
-    requires { Stands s (length chunk.old) }
-    ensures { Onward Pause.Bytes s chunk.old result chunk.new }
+) -> Result<(), Failure>
+    requires { Stands s.old (length chunk.old) }
+    ensures { Onward s.old chunk.old s.new chunk.new }
 {
-    let filled = s.filled;
-    let got = read(from, &mut chunk[filled..]);
-    if got.failed {
-        return ended(s, End::Unread);
-    }
-    let replay = s.replay;
-    Standing {
-        replay,
-        filled: filled + got.count,
-        last: got.count == 0,
-        total: total_with(s.total, got.count, err, watched),
-        put: s.put,
-        going: true,
-        end: End::Over,
-    }
+    let count = read(from, &mut chunk[s.filled..]).map_err(Failure::Unread)?;
+    s.filled += count;
+    s.last = count == 0;
+    s.total = s.total.wrapping_add(count as u64);
+    show(watcher, s.total);
+    Ok(())
 }
 
+// What the pause asks for. Is the replay over?
 fn onward<R: Read>(
     pause: Pause,
-    s: Standing,
-    from: &mut Descriptor<R>,
-    err: Stderr,
-    watched: bool,
+    s: &mut Standing,
+    from: &mut R,
+    watcher: Option<Watcher>,
     chunk: &mut [u8],
-) -> Standing
-    requires { Stands s (length chunk.old) × (s.going ≡ true) }
-    ensures { Onward pause s chunk.old result chunk.new }
+) -> Result<bool, Failure>
+    requires { Stands s.old (length chunk.old) }
+    ensures stands { Onward s.old chunk.old s.new chunk.new }
+    ensures over { result ≡ Ok true → pause ≡ Pause.Over }
 {
-    match pause {
-        Pause::Over => ended(s, End::Over),
-        Pause::Bytes => more(s, from, err, watched, chunk),
-        Pause::Room => s,
+    if pause == Pause::Bytes {
+        more(s, from, watcher, chunk)?;
     }
-}
-
-// Progress is cleared from a terminal before lines are written.
-fn cleared(count: usize, total: u64, err: Stderr, watched: bool) {
-    if watched & (0 < count) {
-        no_progress(err, total);
-    }
+    Ok(pause == Pause::Over)
 }
 
 // Replays the bytes that wait, as far as they go.
-fn replayed(s: Standing, chunk: &[u8], out: &mut [u8]) -> Fed
-    requires { Stands s (length chunk.now) }
-    ensures { Replayed s chunk.now out.old out.new result }
+fn replayed(s: &Standing, chunk: &[u8], out: &mut [u8]) -> Fed
+    requires { Stands s.now (length chunk.now) }
+    ensures { Replayed s.now chunk.now out.old out.new result }
 {
-    let replay = s.replay;
-    let filled = s.filled;
-    feed(replay, &chunk[..filled], 0, s.last, out)
+    feed(s.replay, &chunk[..s.filled], 0, s.last, out)
 }
 
 // What is left of these bytes goes to the buffer's front.
-fn left_over(fed: Fed, put: usize, s: Standing, chunk: &mut [u8]) -> Standing
-    requires { Playing fed.replay × (fed.place ≤ s.filled) × (s.filled ≤ length chunk.old) }
-    ensures { LeftOver fed put s chunk.old result chunk.new }
+#[tactic(auto, using(crate::proofs::Round::left_in_front))]
+fn left_over(fed: Fed, s: &mut Standing, chunk: &mut [u8])
+    requires { Playing fed.replay × (fed.place ≤ s.old.filled) × (s.old.filled ≤ length chunk.old) }
+    ensures { LeftOver fed s.old chunk.old s.new chunk.new }
 {
-    let replay = fed.replay;
-    Standing {
-        replay,
-        filled: carry(chunk, fed.place, s.filled),
-        last: s.last,
-        total: s.total,
-        put,
-        going: true,
-        end: End::Over,
-    }
+    s.replay = fed.replay;
+    s.filled = carry(chunk, fed.place, s.filled);
 }
 
-// One round: what waits is replayed, its lines are written, and more is read if that is what the replay wants.
+// One round: what waits is replayed, its lines are written, and more is read if that is what the replay wants. Is the replay
+// over then?
+// Kept (point 5): the buffers stay parameters, so `Stands` is asked of a run with its chunk, since the clauses speak of each by
+// itself, before and after, and a struct of borrowed slices would have to be lent anew at each call.
 fn round<R: Read, W: Write>(
-    s: Standing,
-    from: &mut Descriptor<R>,
-    to: &mut Descriptor<W>,
-    err: Stderr,
-    watched: bool,
+    s: &mut Standing,
+    from: &mut R,
+    to: &mut W,
+    watcher: Option<Watcher>,
     chunk: &mut [u8],
     out: &mut [u8],
-) -> Standing
-    requires { Stands s (length chunk.old) }
-    ensures { OneRound s chunk.old (length out.old) result chunk.new }
+) -> Result<bool, Failure>
+    requires { Stands s.old (length chunk.old) }
+    ensures { OneRound s.old chunk.old (length out.old) result s.new chunk.new }
 {
     let fed = replayed(s, chunk, out);
     let count = fed.count;
-    cleared(count, s.total, err, watched);
-    let put = write(to, &out[0..count]);
-    let after = left_over(fed, put, s, chunk);
-    if put < count {
-        return ended(after, End::Unwritten);
-    }
-    let pause = fed.pause;
-    onward(pause, after, from, err, watched, chunk)
+    clear_before(count, watcher, s.total);
+    let put = write(to, &out[..count]);
+    left_over(fed, s, chunk);
+    s.put = put.map_err(|short| Failure::Unwritten(short.why))?;
+    onward(fed.pause, s, from, watcher, chunk)
 }
 
-// How the run ended. Where it could still go on, the rest of its trace is unread.
-fn ending(s: Standing) -> End
-    ensures { result ≡ ending_of s }
+// Round by round, up to the one by which the replay is over. Where it could still go on, the rest of its trace is unread.
+// Kept (point 2): this loop and those of the two walks of `compare` were tried as one that is lent the round as a closure. What
+// a round requires of what the closure holds, and what holds of it behind the loop, didn't close.
+#[tactic(auto, using(crate::proofs::Round::goes_on, crate::proofs::Round::is_over))]
+fn run<R: Read, W: Write>(
+    s: &mut Standing,
+    from: &mut R,
+    to: &mut W,
+    watcher: Option<Watcher>,
+    chunk: &mut [u8],
+    out: &mut [u8],
+) -> Result<(), Failure>
+    requires { Stands s.old (length chunk.old) }
+    ensures { OnOk result (Ends s.old chunk.old s.new chunk.new) }
 {
-    if s.going {
-        return End::Unread;
+    for _ in 0..TRIES {
+        if round(s, from, to, watcher, chunk, out)? {
+            return Ok(());
+        }
     }
-    let end = s.end;
-    end
+    Err(Failure::Unread(Error::from(ErrorKind::Other)))
 }
 
 pub(crate) fn replay_from<R: Read, W: Write>(
-    from: &mut Descriptor<R>,
-    to: &mut Descriptor<W>,
-    err: Stderr,
-    watched: bool,
-) -> End {
+    from: &mut R,
+    to: &mut W,
+    watcher: Option<Watcher>,
+) -> Result<(), Failure>
+    ensures { OnOk result FromTheBeginning }
+{
     let mut chunk = [0u8; 65536];
     let mut out = [0u8; 65536];
     let mut s = Standing {
@@ -197,16 +154,8 @@ pub(crate) fn replay_from<R: Read, W: Write>(
         last: false,
         total: 0,
         put: 0,
-        going: true,
-        end: End::Over,
     };
-    let mut rounds = TRIES;
-    while rounds > 0 && s.going {
-        s = round(s, from, to, err, watched, &mut chunk, &mut out);
-        rounds -= 1;
-    }
-    if watched {
-        no_progress(err, s.total);
-    }
-    ending(s)
+    let end = run(&mut s, from, to, watcher, &mut chunk, &mut out);
+    clear(watcher, s.total);
+    end
 }

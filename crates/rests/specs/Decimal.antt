@@ -1,8 +1,6 @@
 -- A number in decimals: the value of its digits, of which there is one at least and which fits in 64 bits.
 -- Assumes nothing.
-use Rattle.std.specs.Prelude.{Bool, true, cond, ◌&&◌, List, [], ◌∷◌, ℕ, ◌+◌, ◌*◌, ◌-◌, ◌^◌, leb, ltb}
-use Rattle.rests.specs.declared.number.Number.{Number}
-use Rattle.rests.specs.declared.number.Number.TheVariants.{Is, Bad}
+use Rattle.std.specs.Prelude.{Bool, true, cond, ◌&&◌, List, [], ◌∷◌, ℕ, ◌+◌, ◌*◌, ◌-◌, ◌^◌, leb, ltb, Option, Some, None}
 
 abbrev pub is_digit : ℕ → Bool
 is_digit byte = leb 48 byte && leb byte 57
@@ -20,15 +18,15 @@ unfoldable pub value_behind : ℕ → List ℕ → ℕ
 value_behind n [] = n
 value_behind n (b ∷ bs) = value_behind (grown n b) bs
 
-abbrev pub number_if : Bool → ℕ → Number
-number_if fits n = cond fits (Is n) Bad
+abbrev pub number_if : Bool → ℕ → Option ℕ
+number_if fits n = cond fits (Some n) None
 
-unfoldable pub behind : ℕ → List ℕ → Number
+unfoldable pub behind : ℕ → List ℕ → Option ℕ
 behind n bs = number_if (all_digits bs && ltb (value_behind n bs) (2 ^ 64)) (value_behind n bs)
 
-unfoldable pub decimal_of : List ℕ → Number
-decimal_of [] = Bad
+unfoldable pub decimal_of : List ℕ → Option ℕ
+decimal_of [] = None
 decimal_of (b ∷ bs) = behind 0 (b ∷ bs)
 
-unfoldable pub with_digit : ℕ → ℕ → Number
+unfoldable pub with_digit : ℕ → ℕ → Option ℕ
 with_digit n byte = number_if (is_digit byte && ltb (grown n byte) (2 ^ 64)) (grown n byte)

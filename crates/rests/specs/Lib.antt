@@ -1,5 +1,4 @@
 pub mod Decimal
-pub mod Held
 pub mod Answer
 pub mod Rest
 pub mod Bench

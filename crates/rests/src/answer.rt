@@ -1,51 +1,46 @@
 // The answer as lines: what is proved is which bytes stand at the front of the line buffer, for two traces and a number, and
 // for a record, and that the records of the rest are followed to its end unless a write fails. No contract can say which bytes
 // a write takes: that the lines are written in this order is for a person to read, in the last two functions.
-ghost use Rattle.std.specs.Prelude.{◌≡◌, false, ◌+◌, ◌*◌, ◌≤◌, ◌<◌, length};
+ghost use Rattle.std.specs.Prelude.{◌≡◌, ◌+◌, ◌*◌, ◌≤◌, ◌<◌, length, IfOk, Ok};
 ghost use Rattle.rules.specs.Buffers.{Written};
 ghost use Rattle.comparison.specs.Compare.{error_in};
 ghost use Rattle.text.specs.Text.{text_room};
 ghost use Rattle.text.specs.Lines.{short_room};
-ghost use Rattle.rests.specs.Answer.{told_lines, found_lines, answer_lines, record_line, AtEnd};
+ghost use Rattle.rests.specs.Answer.{told_lines, found_lines, answer_lines, record_line};
 
 use comparison::answer::{compare, rest};
 use comparison::{Comparison, Error, Side};
-use host::descriptor::{Descriptor, write};
-use rules::trace::{Read, Record};
+use host::descriptor::write;
+use rules::trace::Record;
+use std::io;
 use std::io::Write;
 use text::{put_difference, put_ends, put_error, put_likeness, put_record, put_rest_length};
 use trace::decoder::read_at;
 
-// Where the records stopped: at their end, or where a line was not taken.
-#[derive(Clone, Copy)]
-pub(crate) struct Stop {
-    pub place: usize,
-    pub unwritten: bool,
-}
-
 // The first difference, who ends first, and how alike the traces are.
+// Kept (point 4): lines are not printed by `write!`, since the contracts say which bytes stand at the front of the buffer
+// (`Written`), and each line's function in `text` is proved to write its own.
+// Kept (point 6): the lines are the front of an array with their count, since the project has no heap.
+#[tactic(auto, using(rules::proofs::Laws::Buffers::stands_more), unfolding(crate::specs::Answer::told_lines))]
 fn put_told(c: Comparison, out: &mut [u8]) -> usize
     requires { 3 * short_room ≤ length out.old }
     ensures { Written (told_lines c) result out.old out.new × (result ≤ 3 * short_room) }
 {
-    let difference = c.difference;
-    let ends = c.ends;
-    let likeness = c.likeness;
-    let one = put_difference(difference, out);
-    let two = one + put_ends(ends, &mut out[one..]);
-    let three = put_likeness(likeness, &mut out[two..]);
+    let one = put_difference(c.difference, out);
+    let two = one + put_ends(Some(c.ends), &mut out[one..]);
+    let three = put_likeness(Some(c.likeness), &mut out[two..]);
     two + three
 }
 
 // An error stands in the place of all three.
-fn put_found(c: Comparison, out: &mut [u8]) -> usize
+#[tactic(auto, unfolding(crate::specs::Answer::found_lines))]
+fn put_found(told: Result<Comparison, Error>, out: &mut [u8]) -> usize
     requires { 3 * short_room ≤ length out.old }
-    ensures { Written (found_lines c) result out.old out.new × (result ≤ 3 * short_room) }
+    ensures { Written (found_lines told) result out.old out.new × (result ≤ 3 * short_room) }
 {
-    let error = c.error;
-    match error {
-        Error::At(side, x, place) => put_error(side, x, place as u64, out),
-        Error::Nothing => put_told(c, out),
+    match told {
+        Ok(c) => put_told(c, out),
+        Err(e) => put_error(e.side, e.refusal, e.place as u64, out),
     }
 }
 
@@ -60,6 +55,7 @@ fn put_answer<'a>(first: &'a [u8], second: &'a [u8], from: usize, out: &mut [u8]
     found + last
 }
 
+#[tactic(auto, using(rules::proofs::Laws::Buffers::stands_byte))]
 fn put_line(r: Record, out: &mut [u8]) -> usize
     requires { text_room < length out.old }
     ensures { Written (record_line r) result out.old out.new × (result ≤ text_room + 1) }
@@ -69,56 +65,35 @@ fn put_line(r: Record, out: &mut [u8]) -> usize
     at + 1
 }
 
-// Were all the bytes taken?
-fn is_written<W: Write>(to: &mut Descriptor<W>, lines: &[u8]) -> bool {
-    write(to, lines) == lines.len()
-}
-
-fn ended(place: usize) -> Stop
-    ensures { (result.place ≡ place) × (result.unwritten ≡ false) }
-{
-    Stop {
-        place,
-        unwritten: false,
-    }
-}
-
-// Each record, from the first on.
-fn tell_records<W: Write>(to: &mut Descriptor<W>, records: &[u8], out: &mut [u8]) -> Stop
-    requires { (error_in Side.First records.now ≡ Error.Nothing) × (text_room < length out.old) }
-    ensures { AtEnd records.now result }
+// Each record, from the first on. Where all are written it answers the place where they end.
+fn tell_records<W: Write>(to: &mut W, records: &[u8], out: &mut [u8]) -> io::Result<usize>
+    requires { (error_in Side.First records.now ≡ Ok tt) × (text_room < length out.old) }
+    ensures { IfOk result (λ place. place ≡ length records.now) }
 {
     let mut at: usize = 0;
     loop {
         match read_at(records, at) {
-            Read::Found(r, next) => {
-                let count = put_line(r, out);
-                if !is_written(to, &out[0..count]) {
-                    return Stop {
-                        place: at,
-                        unwritten: true,
-                    };
-                }
-                at = next;
+            Ok(Some(found)) => {
+                let count = put_line(found.item, out);
+                write(to, &out[..count])?;
+                at = found.next;
             }
-            Read::End => return ended(at),
-            Read::Refused(_) => return ended(at),
+            Ok(None) | Err(_) => return Ok(at),
         }
     }
 }
 
-// Was all of it written?
+// The answer, and then each record of the rest.
+#[tactic(auto, using(crate::specs::Rest::the_rest_has_no_error))]
 pub(crate) fn tell<'a, W: Write>(
-    to: &mut Descriptor<W>,
+    to: &mut W,
     first: &'a [u8],
     second: &'a [u8],
     from: usize,
-) -> bool {
+) -> io::Result<()> {
     let mut out = [0u8; 4096];
     let count = put_answer(first, second, from, &mut out);
-    if !is_written(to, &out[0..count]) {
-        return false;
-    }
-    let told = tell_records(to, rest(first, second), &mut out);
-    !told.unwritten
+    write(to, &out[..count])?;
+    tell_records(to, rest(first, second), &mut out)?;
+    Ok(())
 }

@@ -9,60 +9,50 @@ mod said;
 mod whole;
 
 use host::arguments::{count, word};
-use host::descriptor::Descriptor;
-use number::Number;
-use whole::Held;
+use number::decimal;
+use whole::hold;
 
 // Its own name is the first word of a command.
 const WORDS: usize = 4;
 
 // The record number that is asked, from 0 on.
-fn asked(rt: &HostRuntime, place: usize) -> Number {
-    let err = rt.stderr();
-    let mut digits = [0u8; 4096];
-    let length = match word(rt, place, &mut digits) {
-        Ok(length) => length,
-        Err(why) => {
-            said::argument_unread(err, why);
-            return Number::Bad;
-        }
-    };
-    let number = number::decimal(&digits[..length]);
-    match number {
-        Number::Is(_) => {}
-        Number::Bad => said::no_number(err, &mut digits[..length]),
+fn asked(rt: &HostRuntime, place: usize) -> Option<u64> {
+    let speaker = said::speaker(rt);
+    let mut buf = [0u8; 4096];
+    let digits = word(rt, place, &mut buf)
+        .map_err(|why| said::argument_unread(speaker, why))
+        .ok()?;
+    let number = decimal(digits);
+    if number.is_none() {
+        said::no_number(speaker, digits);
     }
     number
 }
 
 // The answer for two traces of so many bytes.
-fn compared<'a>(rt: &HostRuntime, first: &'a [u8], second: &'a [u8], from: u64) {
-    let mut to = Descriptor::new(rt.stdout());
-    if !answer::tell(&mut to, first, second, from as usize) {
-        said::output_unwritten(rt.stderr(), to.why());
+fn compared(rt: &HostRuntime, first: &[u8], second: &[u8], from: u64) {
+    if let Err(why) = answer::tell(&mut rt.stdout(), first, second, from as usize) {
+        said::speaker(rt).output_unwritten(why);
     }
 }
 
 // Nothing is printed unless both traces are held.
 fn with_both(rt: &HostRuntime, from: u64) {
     let mut first = [0u8; 65536];
-    let Held::Whole(bytes) = whole::hold(rt, 1, &mut first) else {
-        return;
-    };
     let mut second = [0u8; 65536];
-    let Held::Whole(more) = whole::hold(rt, 2, &mut second) else {
-        return;
-    };
-    compared(rt, &first[..bytes], &second[..more], from);
+    if let Some(one) = hold(rt, 1, &mut first)
+        && let Some(two) = hold(rt, 2, &mut second)
+    {
+        compared(rt, one, two, from);
+    }
 }
 
 fn main(rt: HostRuntime) {
     if count(&rt) != WORDS {
-        said::not_three(rt.stderr());
+        said::not_three(said::speaker(&rt));
         return;
     }
-    match asked(&rt, 3) {
-        Number::Is(from) => with_both(&rt, from),
-        Number::Bad => {}
+    if let Some(from) = asked(&rt, 3) {
+        with_both(&rt, from);
     }
 }

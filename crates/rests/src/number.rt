@@ -2,50 +2,27 @@
 ghost use Rattle.std.specs.Prelude.{◌≡◌};
 ghost use Rattle.rests.specs.Decimal.{with_digit, decimal_of};
 
-#[derive(Clone, Copy)]
-pub(crate) enum Number {
-    Is(u64),
-    Bad,
-}
-
-fn wide(x: u8) -> u64
-    ensures { result ≡ x }
-{
-    x as u64
-}
-
-// The number with one more digit behind it. It is looked at before it is made, so that nothing wraps.
-fn with_digit(value: u64, byte: u8) -> Number
+// The number with one more digit behind it.
+fn with_digit(value: u64, byte: u8) -> Option<u64>
     ensures { result ≡ with_digit value byte }
 {
-    if byte < b'0' {
-        return Number::Bad;
+    if !byte.is_ascii_digit() {
+        return None;
     }
-    if b'9' < byte {
-        return Number::Bad;
-    }
-    let digit = wide(byte - b'0');
-    if (u64::MAX - digit) / 10 < value {
-        return Number::Bad;
-    }
-    Number::Is(value * 10 + digit)
+    value.checked_mul(10)?.checked_add(u64::from(byte - b'0'))
 }
 
 // Digits and nothing else, and one at least.
-pub(crate) fn decimal(word: &[u8]) -> Number
+// Kept (point 4): the library's `parse` takes a sign in front, which is no record number (`a_sign_is_none`).
+pub(crate) fn decimal(word: &[u8]) -> Option<u64>
     ensures { result ≡ decimal_of word.now }
 {
-    if word.len() == 0 {
-        return Number::Bad;
+    if word.is_empty() {
+        return None;
     }
     let mut value: u64 = 0;
-    let mut i: usize = 0;
-    while i < word.len() {
-        let Number::Is(more) = with_digit(value, word[i]) else {
-            return Number::Bad;
-        };
-        value = more;
-        i += 1;
+    for byte in word {
+        value = with_digit(value, *byte)?;
     }
-    Number::Is(value)
+    Some(value)
 }

@@ -1,89 +1,55 @@
 // A trace that is held whole, in a buffer that is lent: a file is read to its end, or refused where it is longer. What goes wrong
 // is said here, and no part of a trace is handed on.
-ghost use Rattle.rests.specs.Held.{Within};
-ghost use Rattle.std.specs.Prelude.{length};
-
 use crate::said;
 use host::arguments::word;
-use host::descriptor::{Descriptor, open, read};
-use std::io::{Error, Read, Stderr};
+use host::descriptor::{fill, open, read};
+use std::io::{Error, Read};
 
-// How many bytes a trace has that is held, or why it is not.
+// Why a trace is not held.
 #[derive(Clone, Copy)]
-pub(crate) enum Held {
-    Whole(usize),
+enum Unheld {
     TooLong,
-    Unread,
+    Unread(Error),
 }
 
-// What a full buffer holds is all of a trace only where no byte follows.
-fn at_end<R: Read>(from: &mut Descriptor<R>, count: usize) -> Held
-    ensures { Within result count }
-{
+impl From<Error> for Unheld {
+    fn from(why: Error) -> Unheld {
+        Unheld::Unread(why)
+    }
+}
+
+// All bytes up to the end. What a full buffer holds is all of a trace only where no byte follows.
+fn whole<'a, R: Read>(from: &mut R, out: &'a mut [u8]) -> Result<&'a [u8], Unheld> {
+    let count = fill(from, out).map_err(Error::from)?;
     let mut more = [0u8; 1];
-    let got = read(from, &mut more);
-    if got.failed {
-        return Held::Unread;
+    if count == out.len() && read(from, &mut more)? > 0 {
+        return Err(Unheld::TooLong);
     }
-    if 0 < got.count {
-        return Held::TooLong;
-    }
-    Held::Whole(count)
-}
-
-fn fill<R: Read>(from: &mut Descriptor<R>, out: &mut [u8]) -> Held
-    ensures { Within result (length out.new) }
-{
-    let mut count: usize = 0;
-    while count < out.len() {
-        let got = read(from, &mut out[count..]);
-        if got.failed {
-            return Held::Unread;
-        }
-        if got.count == 0 {
-            return Held::Whole(count);
-        }
-        count += got.count;
-    }
-    at_end(from, count)
-}
-
-fn say_of(err: Stderr, held: Held, name: &mut [u8], why: Error) {
-    match held {
-        Held::Whole(_) => {}
-        Held::TooLong => said::too_long(err, name),
-        Held::Unread => said::file_unread(err, name, why),
-    }
+    Ok(&out[..count])
 }
 
 // The file of this name. A file that cannot be closed was read all the same.
-fn file(rt: &HostRuntime, name: &mut [u8], out: &mut [u8]) -> Held
-    ensures { Within result (length out.new) }
-{
-    let err = rt.stderr();
-    match open(rt, name) {
-        Ok(mut from) => {
-            let held = fill(&mut from, out);
-            say_of(err, held, name, from.why());
-            held
-        }
-        Err(why) => {
-            said::file_unread(err, name, why);
-            Held::Unread
-        }
-    }
+fn file<'a>(rt: &HostRuntime, name: &[u8], out: &'a mut [u8]) -> Result<&'a [u8], Unheld> {
+    let mut from = open(rt, name)?;
+    whole(&mut from, out)
 }
 
 // The file that the argument at a place names.
-pub(crate) fn hold(rt: &HostRuntime, place: usize, out: &mut [u8]) -> Held
-    ensures { Within result (length out.new) }
-{
-    let mut name = [0u8; 4096];
-    match word(rt, place, &mut name) {
-        Ok(length) => file(rt, &mut name[..length], out),
-        Err(why) => {
-            said::argument_unread(rt.stderr(), why);
-            Held::Unread
+pub(crate) fn hold<'a>(rt: &HostRuntime, place: usize, out: &'a mut [u8]) -> Option<&'a [u8]> {
+    let speaker = said::speaker(rt);
+    let mut buf = [0u8; 4096];
+    let name = word(rt, place, &mut buf)
+        .map_err(|why| said::argument_unread(speaker, why))
+        .ok()?;
+    match file(rt, name, out) {
+        Ok(bytes) => Some(bytes),
+        Err(Unheld::TooLong) => {
+            said::too_long(speaker, name);
+            None
+        }
+        Err(Unheld::Unread(why)) => {
+            speaker.file_unread(name, why);
+            None
         }
     }
 }

@@ -28,12 +28,11 @@ use Rattle.rules.specs.declared.tree.Tree.{Tree}
 use Rattle.rules.specs.declared.budget.Row.{Row}
 use Rattle.rules.specs.declared.budget.Clock.{Clock}
 use Rattle.rules.specs.declared.budget.Controller.{Controller}
-use Rattle.rules.specs.declared.refusals.Costing.{Costing}
-use Rattle.rules.specs.declared.refusals.Costing.TheVariants.{Costs, Refused as Uncosted}
 use Rattle.rules.specs.declared.refusals.Answer.{Answer}
 use Rattle.rules.specs.declared.trace.Record.{Record}
 use Rattle.rules.specs.declared.trace.Record.TheVariants.{Node, Model as ModelOf, Start, Bio as BioOf, Tick, Plan}
 use Rattle.rules.specs.Bench.{B, Case, M, all_right, at_zero, bio, bytes_of_all, cases, clock_at, computed, cost_number, full, later9, letter, on_debt9, plan10, plan11, rates_M, running, saved, state9, tick9, tree, tree5, tree6, tree7, used, waits12, whole_output, whole_trace}
+use Rattle.rules.specs.Results.{Costing}
 
 pub bench : all_right cases ≡ true
 unfolding computed cases on_debt9 tick9 later9 plan10 plan11 waits12

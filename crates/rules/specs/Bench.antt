@@ -8,7 +8,7 @@ pub mod Questions
 pub mod Run
 pub mod Shares
 pub mod Weights
-use Rattle.std.specs.Prelude.{◌≡◌, refl, Bool, true, false, ◌&&◌, List, [], ◌∷◌, ◌++◌, ℕ, ◌+◌, ◌-◌, eqb, get_or}
+use Rattle.std.specs.Prelude.{◌≡◌, refl, Bool, true, false, ◌&&◌, List, [], ◌∷◌, ◌++◌, ℕ, ◌+◌, ◌-◌, eqb, get_or, Err, Ok}
 use Rattle.rules.specs.Words.{sum_to, any_to, join_to, table_from, has, set_to, no_node}
 use Rattle.rules.specs.Units.{abs, virt, relative}
 use Rattle.rules.specs.Cost.{rates_in_range, page_cost, base_cost, price_of, priced, is_flush, is_near, is_sequential, cost_at, cost_of}
@@ -28,11 +28,10 @@ use Rattle.rules.specs.declared.tree.Tree.{Tree}
 use Rattle.rules.specs.declared.budget.Row.{Row}
 use Rattle.rules.specs.declared.budget.Clock.{Clock}
 use Rattle.rules.specs.declared.budget.Controller.{Controller}
-use Rattle.rules.specs.declared.refusals.Costing.{Costing}
-use Rattle.rules.specs.declared.refusals.Costing.TheVariants.{Costs, Refused as Uncosted}
 use Rattle.rules.specs.declared.refusals.Answer.{Answer}
 use Rattle.rules.specs.declared.trace.Record.{Record}
 use Rattle.rules.specs.declared.trace.Record.TheVariants.{Node, Model as ModelOf, Start, Bio as BioOf, Tick, Plan}
+use Rattle.rules.specs.Results.{Costing, Answered}
 
 -- every rule that the checker computes below: to unfold this is to unfold them all
 unfoldable pub computed : Unit {0}
@@ -71,8 +70,8 @@ abbrev pub at_zero : Row
 at_zero = record { budget = virt 0; debt = abs 0; usage = abs 0; end = 0; begun = true; accepted = true }
 
 abbrev pub cost_number : Costing → ℕ
-cost_number (Costs cost) = cost.0
-cost_number (Uncosted x) = 0
+cost_number (Ok cost) = cost.0
+cost_number (Err x) = 0
 
 -- ---- the trees of B5 to B8
 abbrev pub tree : ℕ → List ℕ → List ℕ → Tree
@@ -112,7 +111,7 @@ abbrev pub state9 : ℕ → Controller
 state9 budget = running tree5 (saved budget ∷ saved 0 ∷ []) 0
 
 -- the letter that the replay prints for an answer
-abbrev pub letter : Answer → ℕ
+abbrev pub letter : Answered → ℕ
 letter a = get_or (answer_line a 7) 0 0
 
 unfoldable pub on_debt9 : Controller

@@ -1,6 +1,6 @@
 -- Budget and submission.
 -- Assumes nothing.
-use Rattle.std.specs.Prelude.{Bool, true, false, cond, not, ◌&&◌, ◌||◌, List, [], ℕ, ◌+◌, ◌-◌, ◌*◌, ◌%◌, eqb, leb, ltb, get_or, set, replicate}
+use Rattle.std.specs.Prelude.{Bool, true, false, cond, not, ◌&&◌, ◌||◌, List, [], ℕ, ◌+◌, ◌-◌, ◌*◌, ◌%◌, eqb, leb, ltb, get_or, set, replicate, Ok}
 use Rattle.rules.specs.Numbers.{queue_room, nodes_most, vrate_fresh}
 use Rattle.rules.specs.Words.{table, has, set_of, no_node}
 use Rattle.rules.specs.Units.{abs, virt, floor_of, relative}
@@ -15,9 +15,9 @@ use Rattle.rules.specs.declared.budget.Row.{Row}
 use Rattle.rules.specs.declared.budget.Queue.{Queue}
 use Rattle.rules.specs.declared.budget.Clock.{Clock}
 use Rattle.rules.specs.declared.budget.Controller.{Controller}
-use Rattle.rules.specs.declared.budget.Submitted.{Submitted}
 use Rattle.rules.specs.declared.refusals.Answer.{Answer}
-use Rattle.rules.specs.declared.refusals.Answer.TheVariants.{Issued, Waits, OnDebt, Refused as Declined}
+use Rattle.rules.specs.declared.refusals.Answer.TheVariants.{Issued, Waits, OnDebt}
+use Rattle.rules.specs.Results.{Submitted}
 
 -- ---- "Fresh state: .."
 abbrev pub empty_queue : Queue
@@ -231,20 +231,17 @@ unfoldable pub row_after : Answer → Abs → ℕ → Row → Row
 row_after Issued cost share r = charged cost share r
 row_after Waits cost share r = r
 row_after OnDebt cost share r = with_debt (abs (r.debt.0 + cost.0)) r
-row_after (Declined x) cost share r = r
 
 unfoldable pub queue_after : Answer → ℕ → Abs → Queue → Queue
 queue_after Issued id cost q = q
 queue_after Waits id cost q = pushed id cost q
 queue_after OnDebt id cost q = q
-queue_after (Declined x) id cost q = q
 
 -- "4. If the bio waited .."
 abbrev pub ends_donation : Answer → Bool
 ends_donation Issued = false
 ends_donation Waits = true
 ends_donation OnDebt = true
-ends_donation (Declined x) = false
 
 unfoldable pub answer_in : Controller → Bio → Answer
 answer_in c b =
@@ -269,4 +266,4 @@ unfoldable pub would_be : Controller → Bio → Answer
 would_be c b = answer_in (entered b.node c) b
 
 unfoldable pub submission : Bio → Controller → Submitted
-submission b c = record { answer = would_be c b; state = settled (would_be c b) b (entered b.node c) }
+submission b c = record { answer = Ok (would_be c b); state = settled (would_be c b) b (entered b.node c) }

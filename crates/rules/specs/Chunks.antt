@@ -1,33 +1,31 @@
 -- The replay with lent buffers: a step over one record, and a chunk of a trace, of which more may come.
 -- Assumes nothing.
-use Rattle.std.specs.Prelude.{Bool, true, false, cond, not, ◌&&◌, ◌||◌, List, [], ◌++◌, ℕ, zero, suc, ◌+◌, ◌-◌, eqb, leb, ltb, length, drop}
+use Rattle.std.specs.Prelude.{Bool, true, false, cond, not, ◌&&◌, ◌||◌, List, [], ◌++◌, ℕ, zero, suc, ◌+◌, ◌-◌, eqb, leb, ltb, length, drop, Err, None, Ok, Some, Option}
 use Rattle.rules.specs.Numbers.{line_room}
 use Rattle.rules.specs.Refusals.{number}
 use Rattle.rules.specs.Trace.{read_at}
 use Rattle.rules.specs.Replay.{Called, bio_call, tick_call, plan_call, set_call, is_stopped, stepped, next_place, beginning}
 use Rattle.rules.specs.declared.budget.Controller.{Controller}
 use Rattle.rules.specs.declared.trace.Record.TheVariants.{Node, Model as ModelOf, Start, Bio as BioOf, Tick, Plan, Vrate, Weight}
-use Rattle.rules.specs.declared.trace.Read.{Read}
-use Rattle.rules.specs.declared.trace.Read.TheVariants.{Found, End, Refused as Unread}
 use Rattle.rules.specs.declared.replay.Phase.{Phase}
 use Rattle.rules.specs.declared.replay.Phase.TheVariants.{Setup, Priced, Running, Stopped}
 use Rattle.rules.specs.declared.replay.Replay.{Replay}
 use Rattle.rules.specs.declared.replay.Call.{Call}
-use Rattle.rules.specs.declared.replay.Call.TheVariants.{Bio as CallBio, Tick as CallTick, Plan as CallPlan, Set as CallSet, None as NoCall}
+use Rattle.rules.specs.declared.replay.Call.TheVariants.{Bio as CallBio, Tick as CallTick, Plan as CallPlan, Set as CallSet}
 use Rattle.rules.specs.declared.replay.Setting.TheVariants.{Vrate as SetVrate, Weight as SetWeight}
-use Rattle.rules.specs.declared.replay.Printed.{Printed}
-use Rattle.rules.specs.declared.replay.Printed.TheVariants.{Bytes as BytesOf, Short}
 use Rattle.rules.specs.declared.replay.Stepped.{Stepped}
 use Rattle.rules.specs.declared.replay.Pause.{Pause}
 use Rattle.rules.specs.declared.replay.Pause.TheVariants.{Over, Bytes, Room}
 use Rattle.rules.specs.declared.replay.Fed.{Fed}
+use Rattle.rules.specs.Results.{Read, Printed}
+use Rattle.rules.specs.declared.trace.Record.{Record}
 
 -- ---- one step: nothing is done where the lent buffer is too short for what a record may print
 unfoldable pub stepping : Read → Replay → List ℕ → Stepped
 stepping read s lent =
     cond (ltb (length lent) line_room)
-    (record { printed = Short; replay = s })
-    (record { printed = BytesOf (length (stepped read s).bytes); replay = (stepped read s).replay })
+    (record { printed = None; replay = s })
+    (record { printed = Some (length (stepped read s).bytes); replay = (stepped read s).replay })
 
 unfoldable pub stepped_to : Read → Replay → List ℕ → List ℕ
 stepped_to read s lent =
@@ -35,15 +33,15 @@ stepped_to read s lent =
 
 -- ---- a chunk: what was read of a trace so far; `last` says that no more will come
 unfoldable pub is_end : Read → Bool
-is_end (Found r next) = false
-is_end End = true
-is_end (Unread x) = false
+is_end (Ok (Some f)) = false
+is_end (Ok None) = true
+is_end (Err x) = false
 
 -- nothing of a record is here, or not all of it
 unfoldable pub is_cut : Read → Bool
-is_cut (Found r next) = false
-is_cut End = true
-is_cut (Unread x) = eqb (number x) 17
+is_cut (Ok (Some f)) = false
+is_cut (Ok None) = true
+is_cut (Err x) = eqb (number x) 17
 
 -- more bytes may make a record whole, so 17 is given at the true end alone
 unfoldable pub wants_bytes : Bool → Read → Bool
@@ -89,24 +87,24 @@ unfoldable pub fed : Bool → List ℕ → ℕ → ℕ → Replay → Fed
 fed last trace room place s = fed_by last trace (part last trace room place s)
 
 -- ---- calls in a row: what a replay that runs does with them, on its state alone
-unfoldable pub call_of : Read → Call
-call_of (Found (Node p w) next) = NoCall
-call_of (Found (ModelOf r) next) = NoCall
-call_of (Found (Start time) next) = NoCall
-call_of (Found (BioOf b) next) = CallBio b
-call_of (Found (Tick time) next) = CallTick time
-call_of (Found Plan next) = CallPlan
-call_of (Found (Vrate v) next) = CallSet (SetVrate v)
-call_of (Found (Weight n w) next) = CallSet (SetWeight n w)
-call_of End = NoCall
-call_of (Unread x) = NoCall
+unfoldable pub call_by : Record → Option Call
+call_by (Node p w) = None
+call_by (ModelOf r) = None
+call_by (Start time) = None
+call_by (BioOf b) = Some (CallBio b)
+call_by (Tick time) = Some (CallTick time)
+call_by Plan = Some CallPlan
+call_by (Vrate v) = Some (CallSet (SetVrate v))
+call_by (Weight n w) = Some (CallSet (SetWeight n w))
 
-unfoldable pub is_call : Call → Bool
-is_call (CallBio b) = true
-is_call (CallTick time) = true
-is_call CallPlan = true
-is_call (CallSet x) = true
-is_call NoCall = false
+unfoldable pub call_of : Read → Option Call
+call_of (Ok (Some f)) = call_by f.item
+call_of (Ok None) = None
+call_of (Err x) = None
+
+unfoldable pub is_call : Option Call → Bool
+is_call (Some call) = true
+is_call None = false
 
 abbrev pub is_running : Phase → Bool
 is_running Setup = false
@@ -118,12 +116,12 @@ is_running Stopped = false
 unfoldable pub runs : Phase → Read → Bool
 runs phase read = is_running phase && is_call (call_of read)
 
-unfoldable pub calling : Call → Controller → Called
-calling (CallBio b) c = bio_call b c
-calling (CallTick time) c = tick_call time c
-calling CallPlan c = plan_call c
-calling (CallSet x) c = set_call x c
-calling NoCall c = record { bytes = []; state = c }
+unfoldable pub calling : Option Call → Controller → Called
+calling (Some (CallBio b)) c = bio_call b c
+calling (Some (CallTick time)) c = tick_call time c
+calling (Some CallPlan) c = plan_call c
+calling (Some (CallSet x)) c = set_call x c
+calling None c = record { bytes = []; state = c }
 
 pub record Run : Type 0 where
   pub bytes : List ℕ
@@ -151,9 +149,9 @@ abbrev pub whole_part : List ℕ → ℕ → Part
 whole_part trace room = part true trace room 0 beginning
 
 abbrev pub printed_if : Pause → ℕ → Printed
-printed_if Over count = BytesOf count
-printed_if Bytes count = Short
-printed_if Room count = Short
+printed_if Over count = Some count
+printed_if Bytes count = None
+printed_if Room count = None
 
 unfoldable pub whole : List ℕ → ℕ → Printed
 whole trace room = printed_if (fed true trace room 0 beginning).pause (fed true trace room 0 beginning).count

@@ -1,6 +1,6 @@
 -- What each entry answers, and the state that it leaves: a refusal, with nothing changed, or the rule of its section.
 -- Assumes nothing.
-use Rattle.std.specs.Prelude.{List, ℕ, length, replicate}
+use Rattle.std.specs.Prelude.{List, ℕ, length, replicate, Err, Ok}
 use Rattle.rules.specs.Numbers.{nodes_most, bps_least, iops_least}
 use Rattle.rules.specs.Cost.{priced, cost_of}
 use Rattle.rules.specs.Budget.{fresh, submission, reweighted}
@@ -13,24 +13,14 @@ use Rattle.rules.specs.declared.cost.Bio.{Bio}
 use Rattle.rules.specs.declared.tree.Tree.{Tree}
 use Rattle.rules.specs.declared.budget.Row.{Row}
 use Rattle.rules.specs.declared.budget.Controller.{Controller}
-use Rattle.rules.specs.declared.budget.Submitted.{Submitted}
-use Rattle.rules.specs.declared.budget.Ticked.{Ticked}
-use Rattle.rules.specs.declared.budget.Outcome.{Outcome}
 use Rattle.rules.specs.declared.replay.Setting.{Setting}
 use Rattle.rules.specs.declared.replay.Setting.TheVariants.{Vrate, Weight}
-use Rattle.rules.specs.declared.refusals.Pricing.{Pricing}
-use Rattle.rules.specs.declared.refusals.Pricing.TheVariants.{Priced, Refused as Unpriced}
-use Rattle.rules.specs.declared.refusals.Costing.{Costing}
-use Rattle.rules.specs.declared.refusals.Costing.TheVariants.{Costs, Refused as Uncosted}
-use Rattle.rules.specs.declared.refusals.Verdict.{Verdict}
-use Rattle.rules.specs.declared.refusals.Verdict.TheVariants.{Accepted, Refused}
-use Rattle.rules.specs.declared.refusals.Answer.TheVariants.{Refused as Declined}
-use Rattle.rules.specs.declared.refusals.Count.TheVariants.{Released, Refused as Unticked}
+use Rattle.rules.specs.Results.{Submitted, Ticked, Judged, Pricing, Costing, Verdict}
 
 -- ---- price a model
 unfoldable pub pricing_by : Verdict → Rates → Pricing
-pricing_by Accepted r = Priced (priced r)
-pricing_by (Refused x) r = Unpriced x
+pricing_by (Ok tt) r = Ok (priced r)
+pricing_by (Err x) r = Err x
 
 unfoldable pub pricing : Rates → Pricing
 pricing r = pricing_by (first_of (rate_checks r)) r
@@ -41,8 +31,8 @@ tree_verdict t = first_of (tree_checks t)
 
 -- ---- the cost of a bio
 unfoldable pub costing_by : Verdict → Model → Row → Bio → Costing
-costing_by Accepted model row b = Costs (cost_of model row b)
-costing_by (Refused x) model row b = Uncosted x
+costing_by (Ok tt) model row b = Ok (cost_of model row b)
+costing_by (Err x) model row b = Err x
 
 unfoldable pub costing : Model → Row → Bio → Costing
 costing model row b = costing_by (first_of (cost_checks model row b)) model row b
@@ -65,62 +55,62 @@ slowest = record {
 abbrev pub slowest_model : Model
 slowest_model = priced slowest
 
-unfoldable pub started_by : Verdict → Tree → Rates → ℕ → Outcome
-started_by Accepted t r time = record { answer = Accepted; state = fresh t (priced r) time }
-started_by (Refused x) t r time = record { answer = Refused x; state = fresh no_tree slowest_model 0 }
+unfoldable pub started_by : Verdict → Tree → Rates → ℕ → Judged
+started_by (Ok tt) t r time = record { answer = Ok tt; state = fresh t (priced r) time }
+started_by (Err x) t r time = record { answer = Err x; state = fresh no_tree slowest_model 0 }
 
-unfoldable pub started : Tree → Rates → ℕ → Outcome
+unfoldable pub started : Tree → Rates → ℕ → Judged
 started t r time = started_by (first_of (start_checks t r)) t r time
 
 -- ---- submit
 unfoldable pub submitted_by : Verdict → Bio → Controller → Submitted
-submitted_by Accepted b c = submission b c
-submitted_by (Refused x) b c = record { answer = Declined x; state = c }
+submitted_by (Ok tt) b c = submission b c
+submitted_by (Err x) b c = record { answer = Err x; state = c }
 
 unfoldable pub submitted : Bio → Controller → Submitted
 submitted b c = submitted_by (first_of (submit_checks b c)) b c
 
 -- ---- tick, with the lent buffer before it and after
 unfoldable pub ticked_by : Verdict → ℕ → Controller → Ticked
-ticked_by Accepted time c =
-    record { answer = Released (length (releases (growth c.clock time) c)); state = tick time c }
-ticked_by (Refused x) time c = record { answer = Unticked x; state = c }
+ticked_by (Ok tt) time c =
+    record { answer = Ok (length (releases (growth c.clock time) c)); state = tick time c }
+ticked_by (Err x) time c = record { answer = Err x; state = c }
 
 unfoldable pub ticked : ℕ → List ℕ → Controller → Ticked
 ticked time lent c = ticked_by (first_of (tick_checks time (length lent) c)) time c
 
 unfoldable pub lent_by : Verdict → ℕ → List ℕ → Controller → List ℕ
-lent_by Accepted time lent c = lent_after (releases (growth c.clock time) c) lent
-lent_by (Refused x) time lent c = lent
+lent_by (Ok tt) time lent c = lent_after (releases (growth c.clock time) c) lent
+lent_by (Err x) time lent c = lent
 
 unfoldable pub lent_of : ℕ → List ℕ → Controller → List ℕ
 lent_of time lent c = lent_by (first_of (tick_checks time (length lent) c)) time lent c
 
 -- ---- plan
-unfoldable pub planned_by : Verdict → Controller → Outcome
-planned_by Accepted c = record { answer = Accepted; state = plan c }
-planned_by (Refused x) c = record { answer = Refused x; state = c }
+unfoldable pub planned_by : Verdict → Controller → Judged
+planned_by (Ok tt) c = record { answer = Ok tt; state = plan c }
+planned_by (Err x) c = record { answer = Err x; state = c }
 
-unfoldable pub planned : Controller → Outcome
+unfoldable pub planned : Controller → Judged
 planned c = planned_by (first_of (plan_checks c)) c
 
 -- ---- vrate
-unfoldable pub vrated_by : Verdict → ℕ → Controller → Outcome
-vrated_by Accepted v c = record { answer = Accepted; state = with_vrate v c }
-vrated_by (Refused x) v c = record { answer = Refused x; state = c }
+unfoldable pub vrated_by : Verdict → ℕ → Controller → Judged
+vrated_by (Ok tt) v c = record { answer = Ok tt; state = with_vrate v c }
+vrated_by (Err x) v c = record { answer = Err x; state = c }
 
-unfoldable pub vrated : ℕ → Controller → Outcome
+unfoldable pub vrated : ℕ → Controller → Judged
 vrated v c = vrated_by (first_of (vrate_checks v)) v c
 
 -- ---- weight
-unfoldable pub weighted_by : Verdict → ℕ → ℕ → Controller → Outcome
-weighted_by Accepted n w c = record { answer = Accepted; state = reweighted n w c }
-weighted_by (Refused x) n w c = record { answer = Refused x; state = c }
+unfoldable pub weighted_by : Verdict → ℕ → ℕ → Controller → Judged
+weighted_by (Ok tt) n w c = record { answer = Ok tt; state = reweighted n w c }
+weighted_by (Err x) n w c = record { answer = Err x; state = c }
 
-unfoldable pub weighted : ℕ → ℕ → Controller → Outcome
+unfoldable pub weighted : ℕ → ℕ → Controller → Judged
 weighted n w c = weighted_by (first_of (weight_checks n w c.tree)) n w c
 
 -- ---- a call that sets one thing, and charges nothing
-abbrev pub set_by : Setting → Controller → Outcome
+abbrev pub set_by : Setting → Controller → Judged
 set_by (Vrate v) c = vrated v c
 set_by (Weight n w) c = weighted n w c

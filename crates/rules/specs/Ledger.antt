@@ -1,7 +1,7 @@
 -- The ledger's heads: what a call adds to each, by its answer and the state that it came upon. No head is a field of the
 -- state; a refused call adds nothing.
 -- Assumes nothing.
-use Rattle.std.specs.Prelude.{cond, List, ℕ, zero, suc, ◌+◌, ◌-◌, ◌*◌, ◌%◌, eqb, length, get_or}
+use Rattle.std.specs.Prelude.{cond, List, ℕ, zero, suc, ◌+◌, ◌-◌, ◌*◌, ◌%◌, eqb, length, get_or, Err, Ok}
 use Rattle.rules.specs.Numbers.{queue_room, leaf_most}
 use Rattle.rules.specs.Words.{sum_to, table_from}
 use Rattle.rules.specs.Units.{abs}
@@ -16,10 +16,8 @@ use Rattle.rules.specs.declared.cost.Bio.{Bio}
 use Rattle.rules.specs.declared.budget.Queue.{Queue}
 use Rattle.rules.specs.declared.budget.Controller.{Controller}
 use Rattle.rules.specs.declared.replay.Setting.{Setting}
-use Rattle.rules.specs.declared.refusals.Verdict.{Verdict}
-use Rattle.rules.specs.declared.refusals.Verdict.TheVariants.{Accepted, Refused}
-use Rattle.rules.specs.declared.refusals.Answer.{Answer}
-use Rattle.rules.specs.declared.refusals.Answer.TheVariants.{Issued, Waits, OnDebt, Refused as Declined}
+use Rattle.rules.specs.declared.refusals.Answer.TheVariants.{Issued, Waits, OnDebt}
+use Rattle.rules.specs.Results.{Answered, Verdict}
 
 -- ---- the calls, with any arguments; a tick has the contents of the buffer that it is lent
 pub data Call : Type 0 where
@@ -59,29 +57,29 @@ abbrev pub owed : Controller → ℕ → ℕ
 owed c n = (row_at c n).debt.0
 
 -- ---- a submission: by its answer
-abbrev pub if_taken : Answer → ℕ → ℕ
-if_taken Issued cost = cost
-if_taken Waits cost = cost
-if_taken OnDebt cost = cost
-if_taken (Declined x) cost = 0
+abbrev pub if_taken : Answered → ℕ → ℕ
+if_taken (Ok Issued) cost = cost
+if_taken (Ok Waits) cost = cost
+if_taken (Ok OnDebt) cost = cost
+if_taken (Err x) cost = 0
 
-abbrev pub if_issued : Answer → ℕ → ℕ
-if_issued Issued cost = cost
-if_issued Waits cost = 0
-if_issued OnDebt cost = 0
-if_issued (Declined x) cost = 0
+abbrev pub if_issued : Answered → ℕ → ℕ
+if_issued (Ok Issued) cost = cost
+if_issued (Ok Waits) cost = 0
+if_issued (Ok OnDebt) cost = 0
+if_issued (Err x) cost = 0
 
-abbrev pub if_waits : Answer → ℕ → ℕ
-if_waits Issued cost = 0
-if_waits Waits cost = cost
-if_waits OnDebt cost = 0
-if_waits (Declined x) cost = 0
+abbrev pub if_waits : Answered → ℕ → ℕ
+if_waits (Ok Issued) cost = 0
+if_waits (Ok Waits) cost = cost
+if_waits (Ok OnDebt) cost = 0
+if_waits (Err x) cost = 0
 
-abbrev pub if_on_debt : Answer → ℕ → ℕ
-if_on_debt Issued cost = 0
-if_on_debt Waits cost = 0
-if_on_debt OnDebt cost = cost
-if_on_debt (Declined x) cost = 0
+abbrev pub if_on_debt : Answered → ℕ → ℕ
+if_on_debt (Ok Issued) cost = 0
+if_on_debt (Ok Waits) cost = 0
+if_on_debt (Ok OnDebt) cost = cost
+if_on_debt (Err x) cost = 0
 
 -- the bio's cost, if it is of leaf n
 unfoldable pub cost_on : ℕ → Bio → Controller → ℕ
@@ -89,8 +87,8 @@ cost_on n b c = cond (eqb b.node n) (cost_of c.model (row_at c n) b).0 0
 
 -- ---- a tick and a plan: if accepted
 abbrev pub if_accepted : Verdict → ℕ → ℕ
-if_accepted Accepted x = x
-if_accepted (Refused r) x = 0
+if_accepted (Ok tt) x = x
+if_accepted (Err r) x = 0
 
 -- the cost of the bios that leaf n releases: they are the first of its queue, as many as it has ids for
 unfoldable pub released_at : Virt → Controller → ℕ → ℕ

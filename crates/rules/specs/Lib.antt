@@ -1,3 +1,4 @@
+pub mod Results
 pub mod Numbers
 pub mod Words
 pub mod Units

@@ -1,7 +1,7 @@
 -- Refusal numbers: the number of each, and for each entry what it checks, in the table's order, or in that of the request which
 -- adds it.
 -- Assumes nothing.
-use Rattle.std.specs.Prelude.{Bool, true, false, cond, not, ◌&&◌, ◌||◌, List, [], ◌∷◌, ◌++◌, ℕ, ◌+◌, eqb, leb, ltb, length, get_or, drop}
+use Rattle.std.specs.Prelude.{Bool, true, false, cond, not, ◌&&◌, ◌||◌, List, [], ◌∷◌, ◌++◌, ℕ, ◌+◌, eqb, leb, ltb, length, get_or, drop, Err, None, Ok, Some}
 use Rattle.rules.specs.Numbers.{cost_most, queue_room, debt_most, elapsed_most, vtime_most, since_most, letter_I, letter_W, letter_D}
 use Rattle.rules.specs.Cost.{rates_in_range, bio_in_range, cost_of}
 use Rattle.rules.specs.Tree.{weight_in_range, tree_fault, newest_fault, is_thin, is_leaf, is_below_root, with_weight}
@@ -15,32 +15,20 @@ use Rattle.rules.specs.declared.cost.Model.{Model}
 use Rattle.rules.specs.declared.cost.Bio.{Bio}
 use Rattle.rules.specs.declared.tree.Tree.{Tree}
 use Rattle.rules.specs.declared.tree.Fault.{Fault}
-use Rattle.rules.specs.declared.tree.Fault.TheVariants.{Sound, Count, Parent, Weight, Level}
+use Rattle.rules.specs.declared.tree.Fault.TheVariants.{Count, Parent, Weight, Level}
 use Rattle.rules.specs.declared.budget.Row.{Row}
 use Rattle.rules.specs.declared.budget.Queue.{Queue}
 use Rattle.rules.specs.declared.budget.Controller.{Controller}
 use Rattle.rules.specs.declared.refusals.Refusal.{Refusal}
 use Rattle.rules.specs.declared.refusals.Refusal.TheVariants.{BadTree, ThinTree, BadRate, NoLeaf, BadBio, TooDear, QueueFull, DebtFull, TimeBack, TimeFar, ClockFull, PlanDue, FewPlaces, NothingPassed, BadVrate, UnknownKind, CutShort, WrongPhase, NotBelowRoot, ShortBuffer}
-use Rattle.rules.specs.declared.refusals.Verdict.{Verdict}
-use Rattle.rules.specs.declared.refusals.Verdict.TheVariants.{Accepted, Refused}
 use Rattle.rules.specs.declared.refusals.Answer.{Answer}
-use Rattle.rules.specs.declared.refusals.Answer.TheVariants.{Issued, Waits, OnDebt, Refused as Declined}
-use Rattle.rules.specs.declared.refusals.Count.{Count as CountAsAnswer}
-use Rattle.rules.specs.declared.refusals.Count.TheVariants.{Released, Refused as Unticked}
-use Rattle.rules.specs.declared.refusals.Pricing.{Pricing}
-use Rattle.rules.specs.declared.refusals.Pricing.TheVariants.{Priced, Refused as Unpriced}
-use Rattle.rules.specs.declared.refusals.Costing.{Costing}
-use Rattle.rules.specs.declared.refusals.Costing.TheVariants.{Costs, Refused as Uncosted}
+use Rattle.rules.specs.declared.refusals.Answer.TheVariants.{Issued, Waits, OnDebt}
 use Rattle.rules.specs.declared.trace.Record.{Record}
-use Rattle.rules.specs.declared.trace.Read.{Read}
-use Rattle.rules.specs.declared.trace.Read.TheVariants.{Found, End, Refused as Unread}
-use Rattle.rules.specs.declared.trace.Write.{Write}
-use Rattle.rules.specs.declared.trace.Write.TheVariants.{Wrote, Refused as Unwritten}
+use Rattle.rules.specs.Results.{Finding, Answered, Verdict, Count as Counted, Pricing, Costing, Read, Write}
 
--- request Two: "20 node count, 21 parent, 22 weight, 23 level". A tree without a fault is not refused, so that has no number
+-- request Two: "20 node count, 21 parent, 22 weight, 23 level"; a tree without a fault is not refused, so that has no number
 -- (DECISIONS 63)
 abbrev pub fault_number : Fault → ℕ
-fault_number Sound = 0
 fault_number Count = 20
 fault_number (Parent n) = 21
 fault_number (Weight n) = 22
@@ -48,7 +36,6 @@ fault_number (Level n) = 23
 
 -- ".. with the number of the first bad node"; "20 names node 0"
 abbrev pub fault_node : Fault → ℕ
-fault_node Sound = 0
 fault_node Count = 0
 fault_node (Parent n) = n
 fault_node (Weight n) = n
@@ -110,53 +97,53 @@ abbrev pub ◌⇒◌ : Bool → Refusal → Check
 b ⇒ x = record { holds = b; refusal = x }
 
 abbrev pub first_of : List Check → Verdict
-first_of [] = Accepted
-first_of (k ∷ ks) = cond k.holds (Refused k.refusal) (first_of ks)
+first_of [] = Ok tt
+first_of (k ∷ ks) = cond k.holds (Err k.refusal) (first_of ks)
 
 -- ---- what each answer says on paper: the number of its refusal, and 0 where it is none
 abbrev pub verdict_number : Verdict → ℕ
-verdict_number Accepted = 0
-verdict_number (Refused x) = number x
+verdict_number (Ok tt) = 0
+verdict_number (Err x) = number x
 
-abbrev pub answer_number : Answer → ℕ
-answer_number Issued = 0
-answer_number Waits = 0
-answer_number OnDebt = 0
-answer_number (Declined x) = number x
+abbrev pub answer_number : Answered → ℕ
+answer_number (Ok a) = 0
+answer_number (Err x) = number x
 
-abbrev pub count_number : CountAsAnswer → ℕ
-count_number (Released n) = 0
-count_number (Unticked x) = number x
+abbrev pub count_number : Counted → ℕ
+count_number (Ok n) = 0
+count_number (Err x) = number x
 
 abbrev pub pricing_number : Pricing → ℕ
-pricing_number (Priced m) = 0
-pricing_number (Unpriced x) = number x
+pricing_number (Ok m) = 0
+pricing_number (Err x) = number x
 
 abbrev pub costing_number : Costing → ℕ
-costing_number (Costs cost) = 0
-costing_number (Uncosted x) = number x
+costing_number (Ok cost) = 0
+costing_number (Err x) = number x
 
 abbrev pub read_number : Read → ℕ
-read_number (Found r next) = 0
-read_number End = 0
-read_number (Unread x) = number x
+read_number (Ok found) = 0
+read_number (Err x) = number x
 
 abbrev pub write_number : Write → ℕ
-write_number (Wrote n) = 0
-write_number (Unwritten x) = number x
+write_number (Ok n) = 0
+write_number (Err x) = number x
 
 -- ---- and its values, which of a refusal are what it names
 -- the letter that the replay prints for it
-abbrev pub answer_values : Answer → List ℕ
-answer_values Issued = letter_I ∷ []
-answer_values Waits = letter_W ∷ []
-answer_values OnDebt = letter_D ∷ []
-answer_values (Declined x) = named x
+abbrev pub letters_of : Answer → List ℕ
+letters_of Issued = letter_I ∷ []
+letters_of Waits = letter_W ∷ []
+letters_of OnDebt = letter_D ∷ []
+
+abbrev pub answer_values : Answered → List ℕ
+answer_values (Ok a) = letters_of a
+answer_values (Err x) = named x
 
 -- how many were released
-abbrev pub count_values : CountAsAnswer → List ℕ
-count_values (Released n) = n ∷ []
-count_values (Unticked x) = named x
+abbrev pub count_values : Counted → List ℕ
+count_values (Ok n) = n ∷ []
+count_values (Err x) = named x
 
 -- what each direction costs: a page, and the bases
 abbrev pub model_values : Model → List ℕ
@@ -166,23 +153,23 @@ model_values m =
     ∷ []
 
 abbrev pub pricing_values : Pricing → List ℕ
-pricing_values (Priced m) = model_values m
-pricing_values (Unpriced x) = named x
+pricing_values (Ok m) = model_values m
+pricing_values (Err x) = named x
 
 abbrev pub costing_values : Costing → List ℕ
-costing_values (Costs cost) = cost.0 ∷ []
-costing_values (Uncosted x) = named x
+costing_values (Ok cost) = cost.0 ∷ []
+costing_values (Err x) = named x
 
 -- the record, by its kind and its numbers, with the place behind it
 abbrev pub read_values : Read → List ℕ
-read_values (Found r next) = kind_of r ∷ fields_of r ++ (next ∷ [])
-read_values End = []
-read_values (Unread x) = named x
+read_values (Ok (Some f)) = kind_of f.item ∷ fields_of f.item ++ (f.next ∷ [])
+read_values (Ok None) = []
+read_values (Err x) = named x
 
 -- how many bytes were written
 abbrev pub write_values : Write → List ℕ
-write_values (Wrote n) = n ∷ []
-write_values (Unwritten x) = named x
+write_values (Ok n) = n ∷ []
+write_values (Err x) = named x
 
 -- ---- both together: an answer as the paper has it
 pub record Paper : Type 0 where
@@ -192,10 +179,10 @@ pub record Paper : Type 0 where
 abbrev pub paper : ℕ → List ℕ → Paper
 paper n vs = record { number = n; values = vs }
 
-abbrev pub answer_paper : Answer → Paper
+abbrev pub answer_paper : Answered → Paper
 answer_paper a = paper (answer_number a) (answer_values a)
 
-abbrev pub count_paper : CountAsAnswer → Paper
+abbrev pub count_paper : Counted → Paper
 count_paper a = paper (count_number a) (count_values a)
 
 abbrev pub pricing_paper : Pricing → Paper
@@ -211,8 +198,8 @@ abbrev pub write_paper : Write → Paper
 write_paper a = paper (write_number a) (write_values a)
 
 abbrev pub unless : Verdict → List ℕ → List ℕ
-unless Accepted vs = vs
-unless (Refused x) vs = named x
+unless (Ok tt) vs = vs
+unless (Err x) vs = named x
 
 -- a verdict that accepts gives no value
 abbrev pub verdict_paper : Verdict → Paper
@@ -231,33 +218,33 @@ abbrev pub numbers_of : List Check → List ℕ
 numbers_of [] = []
 numbers_of (k ∷ ks) = number k.refusal ∷ numbers_of ks
 
--- ---- what a check asks of a fault or an answer
-abbrev pub is_fault : Fault → Bool
-is_fault Sound = false
-is_fault Count = true
-is_fault (Parent n) = true
-is_fault (Weight n) = true
-is_fault (Level n) = true
+-- ---- what a check asks of a tree or an answer
+abbrev pub is_fault : Finding → Bool
+is_fault (Ok tt) = false
+is_fault (Err f) = true
+
+-- the fault that is found; of a tree that has none, whose check does not hold, any stands here
+abbrev pub fault_in : Finding → Fault
+fault_in (Ok tt) = Count
+fault_in (Err f) = f
 
 abbrev pub is_wait : Answer → Bool
 is_wait Issued = false
 is_wait Waits = true
 is_wait OnDebt = false
-is_wait (Declined x) = false
 
 abbrev pub is_debt : Answer → Bool
 is_debt Issued = false
 is_debt Waits = false
 is_debt OnDebt = true
-is_debt (Declined x) = false
 
 -- ---- the checks of each entry
 unfoldable pub tree_checks : Tree → List Check
-tree_checks t = (is_fault (tree_fault t) ⇒ BadTree (tree_fault t)) ∷ (is_thin t ⇒ ThinTree) ∷ []
+tree_checks t = (is_fault (tree_fault t) ⇒ BadTree (fault_in (tree_fault t))) ∷ (is_thin t ⇒ ThinTree) ∷ []
 
 -- a node record's own faults, by the function that finds a whole tree's
 unfoldable pub node_checks : Tree → List Check
-node_checks t = (is_fault (newest_fault t) ⇒ BadTree (newest_fault t)) ∷ []
+node_checks t = (is_fault (newest_fault t) ⇒ BadTree (fault_in (newest_fault t))) ∷ []
 
 unfoldable pub rate_checks : Rates → List Check
 rate_checks r = (not (rates_in_range r) ⇒ BadRate) ∷ []

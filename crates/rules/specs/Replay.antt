@@ -1,6 +1,6 @@
 -- Trace records, continued: the phases of a trace and the lines of the replay.
 -- Assumes nothing.
-use Rattle.std.specs.Prelude.{Bool, true, false, cond, ◌||◌, List, [], ◌∷◌, ◌++◌, ℕ, zero, suc, ◌+◌, ◌/◌, ◌%◌, eqb, leb, ltb, length, get_or, take, set, replicate}
+use Rattle.std.specs.Prelude.{Bool, true, false, cond, ◌||◌, List, [], ◌∷◌, ◌++◌, ℕ, zero, suc, ◌+◌, ◌/◌, ◌%◌, eqb, leb, ltb, length, get_or, take, set, replicate, Err, None, Ok, Some}
 use Rattle.rules.specs.Numbers.{nodes_most, leaf_most, waiting_most, letter_I, letter_W, letter_D}
 use Rattle.rules.specs.Words.{join_to, has}
 use Rattle.rules.specs.Budget.{fresh}
@@ -13,21 +13,15 @@ use Rattle.rules.specs.declared.tree.Tree.{Tree}
 use Rattle.rules.specs.declared.budget.Controller.{Controller}
 use Rattle.rules.specs.declared.refusals.Refusal.{Refusal}
 use Rattle.rules.specs.declared.refusals.Refusal.TheVariants.{WrongPhase}
-use Rattle.rules.specs.declared.refusals.Verdict.{Verdict}
-use Rattle.rules.specs.declared.refusals.Verdict.TheVariants.{Accepted, Refused}
-use Rattle.rules.specs.declared.refusals.Answer.{Answer}
-use Rattle.rules.specs.declared.refusals.Answer.TheVariants.{Issued, Waits, OnDebt, Refused as Declined}
-use Rattle.rules.specs.declared.refusals.Count.{Count as Counted}
-use Rattle.rules.specs.declared.refusals.Count.TheVariants.{Released, Refused as Unticked}
+use Rattle.rules.specs.declared.refusals.Answer.TheVariants.{Issued, Waits, OnDebt}
 use Rattle.rules.specs.declared.trace.Record.{Record}
 use Rattle.rules.specs.declared.trace.Record.TheVariants.{Node, Model as ModelOf, Start, Bio as BioOf, Tick, Plan, Vrate, Weight}
-use Rattle.rules.specs.declared.trace.Read.{Read}
-use Rattle.rules.specs.declared.trace.Read.TheVariants.{Found, End, Refused as Unread}
 use Rattle.rules.specs.declared.replay.Phase.{Phase}
 use Rattle.rules.specs.declared.replay.Phase.TheVariants.{Setup, Priced, Running, Stopped}
 use Rattle.rules.specs.declared.replay.Replay.{Replay}
 use Rattle.rules.specs.declared.replay.Setting.{Setting}
 use Rattle.rules.specs.declared.replay.Setting.TheVariants.{Vrate as SetVrate, Weight as SetWeight}
+use Rattle.rules.specs.Results.{Answered, Verdict, Count as Counted, Read}
 
 -- ---- lines: a letter, a blank before each number, the number's decimal digits, a line feed
 unfoldable pub digits_in : ℕ → ℕ → List ℕ
@@ -49,19 +43,19 @@ line letter ns = letter ∷ numbers ns ++ (10 ∷ [])
 unfoldable pub refusal_line : Refusal → List ℕ
 refusal_line x = line 82 (number x ∷ named x)
 
-unfoldable pub answer_line : Answer → ℕ → List ℕ
-answer_line Issued id = line letter_I (id ∷ [])
-answer_line Waits id = line letter_W (id ∷ [])
-answer_line OnDebt id = line letter_D (id ∷ [])
-answer_line (Declined x) id = refusal_line x
+unfoldable pub answer_line : Answered → ℕ → List ℕ
+answer_line (Ok Issued) id = line letter_I (id ∷ [])
+answer_line (Ok Waits) id = line letter_W (id ∷ [])
+answer_line (Ok OnDebt) id = line letter_D (id ∷ [])
+answer_line (Err x) id = refusal_line x
 
 abbrev pub release_lines : List ℕ → List ℕ
 release_lines [] = []
 release_lines (id ∷ ids) = line 114 (id ∷ []) ++ release_lines ids
 
 unfoldable pub tick_lines : Counted → List ℕ → List ℕ
-tick_lines (Released n) lent = release_lines (take n lent)
-tick_lines (Unticked x) lent = refusal_line x
+tick_lines (Ok n) lent = release_lines (take n lent)
+tick_lines (Err x) lent = refusal_line x
 
 -- ---- the shares of the active leaves, by rising number
 abbrev pub leaf_line : ℕ → ℕ → ℕ → List ℕ
@@ -78,12 +72,12 @@ unfoldable pub share_lines : Controller → List ℕ
 share_lines c = share_lines_of c.active c.shares
 
 unfoldable pub plan_lines : Verdict → Controller → List ℕ
-plan_lines Accepted c = share_lines c
-plan_lines (Refused x) c = refusal_line x
+plan_lines (Ok tt) c = share_lines c
+plan_lines (Err x) c = refusal_line x
 
 unfoldable pub verdict_lines : Verdict → List ℕ
-verdict_lines Accepted = []
-verdict_lines (Refused x) = refusal_line x
+verdict_lines (Ok tt) = []
+verdict_lines (Err x) = refusal_line x
 
 -- ---- phases: "Setup: 1 .., 2 .., 3 ... After start: 4 .. 7", and 8 with request One; "Exactly one model comes before start; .." (DECISIONS 16)
 unfoldable pub in_phase : Phase → ℕ → Bool
@@ -126,17 +120,17 @@ grown p w t = record { count = t.count + 1; parents = set t.parents t.count p; w
 
 -- "In a trace a node record is checked .."
 unfoldable pub node_step : Verdict → Tree → Replay → Step
-node_step Accepted t s = silent (within s.phase t s.rates s.state)
-node_step (Refused x) t s = stops_at x s
+node_step (Ok tt) t s = silent (within s.phase t s.rates s.state)
+node_step (Err x) t s = stops_at x s
 
 unfoldable pub model_step : Verdict → Rates → Replay → Step
-model_step Accepted r s = silent (within Priced s.tree r s.state)
-model_step (Refused x) r s = stops_at x s
+model_step (Ok tt) r s = silent (within Priced s.tree r s.state)
+model_step (Err x) r s = stops_at x s
 
 -- ".. and start for too few nodes, then for 2": each node and the rates were checked when they came
 unfoldable pub start_step : Verdict → Controller → Replay → Step
-start_step Accepted c s = silent (within Running s.tree s.rates c)
-start_step (Refused x) c s = stops_at x s
+start_step (Ok tt) c s = silent (within Running s.tree s.rates c)
+start_step (Err x) c s = stops_at x s
 
 -- ---- a call on the controller: the bytes that it prints, and the state after it
 pub record Called : Type 0 where
@@ -176,15 +170,15 @@ record_step (Weight n w) s = goes_on (set_call (SetWeight n w) s.state) s
 
 -- ---- what is read at a place: a record, which is checked for 18 and then for its own refusals, the end, or 16 or 17
 unfoldable pub read_step : Read → Replay → Step
-read_step (Found r next) s = cond (in_phase s.phase (kind_of r)) (record_step r s) (stops_at WrongPhase s)
-read_step End s = silent s
-read_step (Unread x) s = stops_at x s
+read_step (Ok (Some f)) s = cond (in_phase s.phase (kind_of f.item)) (record_step f.item s) (stops_at WrongPhase s)
+read_step (Ok None) s = silent s
+read_step (Err x) s = stops_at x s
 
 -- where the next record begins; at the end, and where nothing can be read, there is none
 abbrev pub next_place : Read → ℕ → ℕ
-next_place (Found r next) place = next
-next_place End place = place
-next_place (Unread x) place = place
+next_place (Ok (Some f)) place = f.next
+next_place (Ok None) place = place
+next_place (Err x) place = place
 
 -- a replay that has stopped reads and prints no more
 unfoldable pub stepped : Read → Replay → Step

@@ -1,15 +1,12 @@
 -- Trace records: one layout, by which records are read and written.
 -- Assumes nothing.
-use Rattle.std.specs.Prelude.{Bool, cond, not, ◌&&◌, List, [], ◌∷◌, ◌++◌, ℕ, zero, suc, ◌+◌, ◌-◌, ◌*◌, ◌/◌, ◌%◌, ◌^◌, ◌<◌, eqb, leb, ltb, length, get_or, take, drop}
+use Rattle.std.specs.Prelude.{Bool, cond, not, ◌&&◌, List, [], ◌∷◌, ◌++◌, ℕ, zero, suc, ◌+◌, ◌-◌, ◌*◌, ◌/◌, ◌%◌, ◌^◌, ◌<◌, eqb, leb, ltb, length, get_or, take, drop, Err, None, Ok, Some}
 use Rattle.rules.specs.declared.cost.Rates.{Rates}
 use Rattle.rules.specs.declared.cost.Bio.{Bio}
 use Rattle.rules.specs.declared.refusals.Refusal.TheVariants.{UnknownKind, CutShort, ShortBuffer}
 use Rattle.rules.specs.declared.trace.Record.{Record}
 use Rattle.rules.specs.declared.trace.Record.TheVariants.{Node, Model, Start, Bio as BioOf, Tick, Plan, Vrate, Weight}
-use Rattle.rules.specs.declared.trace.Read.{Read}
-use Rattle.rules.specs.declared.trace.Read.TheVariants.{Found, End, Refused}
-use Rattle.rules.specs.declared.trace.Write.{Write}
-use Rattle.rules.specs.declared.trace.Write.TheVariants.{Wrote, Refused as Unwritten}
+use Rattle.rules.specs.Results.{Read, Write}
 
 -- ---- "numbers little-endian"
 unfoldable pub bytes_of : ℕ → ℕ → List ℕ
@@ -116,7 +113,7 @@ Fits r = FitsIn (layout (kind_of r)) (fields_of r)
 
 -- "The writer writes .."; 28 where the lent buffer is too short
 unfoldable pub writing : Record → List ℕ → Write
-writing r lent = cond (ltb (length lent) (length (record_bytes r))) (Unwritten ShortBuffer) (Wrote (length (record_bytes r)))
+writing r lent = cond (ltb (length lent) (length (record_bytes r))) (Err ShortBuffer) (Ok (length (record_bytes r)))
 
 unfoldable pub written_to : Record → List ℕ → List ℕ
 written_to r lent =
@@ -133,11 +130,11 @@ behind kind at = at + 1 + total (layout kind)
 
 unfoldable pub read_kind : List ℕ → ℕ → ℕ → Read
 read_kind trace at kind =
-    cond (not (is_kind kind)) (Refused UnknownKind)
-    (cond (ltb (length trace) (behind kind at)) (Refused CutShort)
-    (Found (record_of kind (fields_from (layout kind) (drop (at + 1) trace))) (behind kind at)))
+    cond (not (is_kind kind)) (Err UnknownKind)
+    (cond (ltb (length trace) (behind kind at)) (Err CutShort)
+    (Ok (Some (record { item = record_of kind (fields_from (layout kind) (drop (at + 1) trace)); next = behind kind at }))))
 
 -- "At the end it answers .."
 unfoldable pub read_at : List ℕ → ℕ → Read
 read_at trace at =
-    cond (ltb (length trace) at) (Refused CutShort) (cond (eqb at (length trace)) End (read_kind trace at (get_or trace at 0)))
+    cond (ltb (length trace) at) (Err CutShort) (cond (eqb at (length trace)) (Ok None) (read_kind trace at (get_or trace at 0)))

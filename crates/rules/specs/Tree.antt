@@ -1,12 +1,12 @@
 -- Tree and base shares.
 -- Assumes nothing.
-use Rattle.std.specs.Prelude.{Bool, cond, not, ◌&&◌, ◌||◌, List, ℕ, zero, suc, ◌-◌, ◌*◌, eqb, leb, ltb, get_or, set}
+use Rattle.std.specs.Prelude.{Bool, cond, not, ◌&&◌, ◌||◌, List, ℕ, zero, suc, ◌-◌, ◌*◌, eqb, leb, ltb, get_or, set, Ok, Err}
 use Rattle.rules.specs.Numbers.{whole, nodes_least, nodes_most, weight_least, weight_most, level_most, share_floor}
 use Rattle.rules.specs.Words.{sum_to, any_to, table, has, set_of}
 use Rattle.rules.specs.Units.{floor_of}
 use Rattle.rules.specs.declared.tree.Tree.{Tree}
-use Rattle.rules.specs.declared.tree.Fault.{Fault}
-use Rattle.rules.specs.declared.tree.Fault.TheVariants.{Sound, Count, Parent, Weight, Level}
+use Rattle.rules.specs.declared.tree.Fault.TheVariants.{Count, Parent, Weight, Level}
+use Rattle.rules.specs.Results.{Finding}
 
 -- "Node 0 is the root": it has no parent, and climbing stops there
 unfoldable pub parent : Tree → ℕ → ℕ
@@ -38,29 +38,26 @@ unfoldable pub weight_in_range : ℕ → Bool
 weight_in_range w = leb weight_least w && leb w weight_most
 
 -- "each other node has .."
-unfoldable pub node_fault : Tree → ℕ → Fault
+unfoldable pub node_fault : Tree → ℕ → Finding
 node_fault t n =
-    cond (leb n (parent t n)) (Parent n)
-    (cond (not (weight_in_range (weight t n))) (Weight n) (cond (ltb level_most (level t n)) (Level n) Sound))
+    cond (leb n (parent t n)) (Err (Parent n))
+    (cond (not (weight_in_range (weight t n))) (Err (Weight n)) (cond (ltb level_most (level t n)) (Err (Level n)) (Ok tt)))
 
-abbrev pub earlier_fault : Fault → Fault → Fault
-earlier_fault Sound g = g
-earlier_fault Count g = Count
-earlier_fault (Parent n) g = Parent n
-earlier_fault (Weight n) g = Weight n
-earlier_fault (Level n) g = Level n
+abbrev pub earlier_fault : Finding → Finding → Finding
+earlier_fault (Ok tt) g = g
+earlier_fault (Err f) g = Err f
 
 -- the first fault of the nodes 1 to m
-unfoldable pub fault_to : Tree → ℕ → Fault
-fault_to t zero = Sound
+unfoldable pub fault_to : Tree → ℕ → Finding
+fault_to t zero = Ok tt
 fault_to t (suc m) = earlier_fault (fault_to t m) (node_fault t (suc m))
 
-unfoldable pub tree_fault : Tree → Fault
-tree_fault t = cond (count_in_range t.count) (fault_to t (last t)) Count
+unfoldable pub tree_fault : Tree → Finding
+tree_fault t = cond (count_in_range t.count) (fault_to t (last t)) (Err Count)
 
 -- the fault of the newest node, as nodes come one by one: a 65th node breaks the count
-unfoldable pub newest_fault : Tree → Fault
-newest_fault t = cond (leb t.count nodes_most) (node_fault t (last t)) Count
+unfoldable pub newest_fault : Tree → Finding
+newest_fault t = cond (leb t.count nodes_most) (node_fault t (last t)) (Err Count)
 
 -- "A leaf is .."
 unfoldable pub is_leaf : Tree → ℕ → Bool

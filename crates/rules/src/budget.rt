@@ -4,11 +4,13 @@ ghost use Rattle.rules.specs.Numbers.{whole, queue_room, share_floor};
 ghost use Rattle.rules.specs.Budget.{fresh_with, empty_queue, empty_row};
 
 use crate::cost::Model;
-use crate::refusals::{Answer, Count, Verdict};
+use crate::refusals::Refusal;
 use crate::tree::Tree;
 use crate::units::{Abs, Virt};
 
 // The waiting bios of one leaf, oldest first: a ring of which `len` places from `head` on are in use.
+// Kept (point 6): document 01 asks for queues by value, each with its own arrays of eight ids and costs; nothing here is on a
+// heap.
 #[derive(Clone, Copy)]
 pub struct Queue {
     pub ids: [u32; Controller::QUEUE_ROOM],
@@ -19,6 +21,8 @@ pub struct Queue {
 
 // The books of one leaf. `end` is where its last accepted bio ended that was no flush, if `begun` says that there was one;
 // `accepted` says whether any bio was accepted since the last plan; `usage` is what it was charged since then.
+// Kept (point 1): `begun` beside `end`, since the numbers of Bench.Questions and the edit `question_priced_as_begun` speak of a
+// row that has an end and has not begun, which an Option of the end does not have.
 #[derive(Clone, Copy)]
 pub struct Row {
     pub budget: Virt,
@@ -41,6 +45,10 @@ pub struct Clock {
 }
 
 // `leaves`, `active` and `donors` are sets of nodes: bit n is node n. An inactive leaf has share 0.
+// Kept (point 5): that a state is sound is asked of each call (`Sound`) and is no invariant of the type, since the rules and
+// their numbers (Bench.Edges, Bench.Questions) speak of states that no call gives.
+// Kept (point 6): document 01 asks for sets that are bits of a u64. Shares, rows and queues are arrays of their own, since a
+// plan and an activation give all shares at once (`base_shares`, `donated`), and theorems say so of `shares` as a whole.
 #[derive(Clone, Copy)]
 pub struct Controller {
     pub tree: Tree,
@@ -56,6 +64,7 @@ pub struct Controller {
 
 // Request Six: what a question is shown, since it ".. looks only at that leaf's own row and the model": whether the node is
 // a leaf and active, the model, and of the node's books the share, the row and how many wait.
+// Kept (point 1): `leaf` and `active` are flags, since the numbers of Bench.Questions speak of books of a node that is neither.
 #[derive(Clone, Copy)]
 pub struct Own {
     pub leaf: bool,
@@ -66,26 +75,17 @@ pub struct Own {
     pub waiting: u8,
 }
 
-// The new state beside the answer: of start, plan, vrate and weight, of a submission, and of a tick.
+// The new state beside the answer: what a call gives where it is accepted, or why it is refused.
+// Kept (point 1): a refused call hands a state back too, start a fresh one (`a_refused_start_has_no_leaf`) and any other the
+// one that came.
 #[derive(Clone, Copy)]
-pub struct Outcome {
-    pub answer: Verdict,
-    pub state: Controller,
-}
-
-#[derive(Clone, Copy)]
-pub struct Submitted {
-    pub answer: Answer,
-    pub state: Controller,
-}
-
-#[derive(Clone, Copy)]
-pub struct Ticked {
-    pub answer: Count,
+pub struct Outcome<T> {
+    pub answer: Result<T, Refusal>,
     pub state: Controller,
 }
 
 impl Queue {
+    // Kept (point 4): `empty_queue` and `empty_row` are what these two promise; a derived default promises nothing.
     pub fn empty() -> Self
         ensures { result ≡ empty_queue }
     {

@@ -27,6 +27,8 @@ pub struct Model {
 }
 
 // One request. Each of its numbers may be any that its width can hold.
+// Kept (point 1): flags are a number, since any byte of a trace is read and written back, and refusal 5 speaks of those with
+// more than two bits.
 #[derive(Clone, Copy)]
 pub struct Bio {
     pub node: u8,

@@ -1,6 +1,6 @@
 // The rules of the recorder's IO budget. Here are the named types and the constructor of the controller; what a call
 // must answer is in specs/, one file for each section of document 01, and why those rules hold together is in specs/Laws.
-// This crate has no other code: the crates above it do the work and prove that they follow these rules.
+// Beside them this crate has no code: the crates above it do the work and prove that they follow these rules.
 #![tactic(auto)]
 
 pub mod budget;

@@ -1,9 +1,12 @@
 // Refusals and answers. What number each refusal has in the documents is said once, in specs/Refusals.antt.
-use crate::cost::Model;
+// Kept (point 5): each entry promises its answer on paper too, as docs/entries.md says: one lemma for each in Laws/Refusals.
+ghost use Rattle.std.specs.Prelude.{◌≡◌};
+ghost use Rattle.rules.specs.declared.refusals.Refusal.TheVariants.{BadTree};
+
 use crate::tree::Fault;
 use crate::units::Abs;
 
-#[derive(Clone, Copy)]
+#[derive(Clone, Copy, PartialEq, Eq)]
 pub enum Refusal {
     BadTree(Fault),
     ThinTree,
@@ -27,46 +30,27 @@ pub enum Refusal {
     ShortBuffer,
 }
 
-// What six rates are priced at.
-#[derive(Clone, Copy)]
-pub enum Pricing {
-    Priced(Model),
-    Refused(Refusal),
-}
-
-// What a bio is found to cost.
-#[derive(Clone, Copy)]
-pub enum Costing {
-    Costs(Abs),
-    Refused(Refusal),
-}
-
-// What a tree's check, start, plan, vrate and weight answer.
-#[derive(Clone, Copy)]
-pub enum Verdict {
-    Accepted,
-    Refused(Refusal),
-}
-
-// What a submission answers.
-#[derive(Clone, Copy)]
+// What becomes of a bio that is accepted.
+#[derive(Clone, Copy, PartialEq, Eq)]
 pub enum Answer {
     Issued,
     Waits,
     OnDebt,
-    Refused(Refusal),
 }
 
 // The decision on a bio: the answer, and what the bio costs where it was priced.
+// Kept (point 1): the cost of a bio that is priced and then refused stands in the numbers of Bench.Questions.
 #[derive(Clone, Copy)]
 pub struct Ruling {
-    pub answer: Answer,
+    pub answer: Result<Answer, Refusal>,
     pub cost: Abs,
 }
 
-// What a tick answers: how many bios it released.
-#[derive(Clone, Copy)]
-pub enum Count {
-    Released(usize),
-    Refused(Refusal),
+// A tree that has a fault is refused for it.
+impl From<Fault> for Refusal {
+    ghost from_gives = { λ f x. x ≡ BadTree f };
+
+    fn from(f: Fault) -> Refusal {
+        Refusal::BadTree(f)
+    }
 }

@@ -4,7 +4,7 @@ use crate::budget::Controller;
 use crate::cost::{Bio, Rates};
 use crate::tree::Tree;
 
-#[derive(Clone, Copy)]
+#[derive(Clone, Copy, PartialEq, Eq)]
 pub enum Phase {
     Setup,
     Priced,
@@ -12,6 +12,9 @@ pub enum Phase {
     Stopped,
 }
 
+// Kept (point 5): that it may play is asked of each step (`Playing`), since `within` of the rules makes a replay of any tree
+// and any state, and a theorem on a step says what it keeps (`record_step_plays`).
+// Kept (point 1): every field stands in every phase, since a replay that stopped keeps all of them (`stops_at`).
 #[derive(Clone, Copy)]
 pub struct Replay {
     pub phase: Phase,
@@ -20,21 +23,16 @@ pub struct Replay {
     pub state: Controller,
 }
 
-// How many bytes of lines were written, or that the lent buffer has too little room for what one record may print.
-#[derive(Clone, Copy)]
-pub enum Printed {
-    Bytes(usize),
-    Short,
-}
-
+// How many bytes of lines were written, if the lent buffer had room for what one record may print.
+// Kept (point 2): a step may lack room (`None`), `Fed` says why it paused, `Ran` has a state: the count alone is common.
 #[derive(Clone, Copy)]
 pub struct Stepped {
-    pub printed: Printed,
+    pub printed: Option<usize>,
     pub replay: Replay,
 }
 
 // Why a replay goes no further in what it was lent: it is over, or it wants more bytes of the trace, or more room.
-#[derive(Clone, Copy)]
+#[derive(Clone, Copy, PartialEq, Eq)]
 pub enum Pause {
     Over,
     Bytes,
@@ -57,14 +55,14 @@ pub enum Setting {
     Weight(u8, u16),
 }
 
-// What a record asks of the controller, if it is one that comes after start.
+// What a record asks of the controller that comes after start.
+// Kept (point 2): not a `Record`, since a call is none of those before start, and vrate and weight are one case.
 #[derive(Clone, Copy)]
 pub enum Call {
     Bio(Bio),
     Tick(u64),
     Plan,
     Set(Setting),
-    None,
 }
 
 // Calls in a row: how many bytes of lines they wrote, where the next record begins, and the state there.

@@ -1,6 +1,5 @@
-// Trace records: a record of each kind, what reading at a place of a trace finds, and what writing answers.
+// Trace records: a record of each kind, and what reading at a place of a trace finds.
 use crate::cost::{Bio, Rates};
-use crate::refusals::Refusal;
 
 #[derive(Clone, Copy)]
 pub enum Record {
@@ -14,17 +13,9 @@ pub enum Record {
     Weight(u8, u16),
 }
 
-// A record with the place behind it, the end of the trace, or why there is no record here.
+// What reading finds that is a record: it, and the place behind it.
 #[derive(Clone, Copy)]
-pub enum Read {
-    Found(Record, usize),
-    End,
-    Refused(Refusal),
-}
-
-// How many bytes a record took, or why it was not written.
-#[derive(Clone, Copy)]
-pub enum Write {
-    Wrote(usize),
-    Refused(Refusal),
+pub struct Found {
+    pub item: Record,
+    pub next: usize,
 }

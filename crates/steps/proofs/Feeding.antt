@@ -14,20 +14,20 @@ use Rattle.rules.specs.Replay.{is_stopped, read_step, next_place, stepped}
 use Rattle.rules.specs.Chunks.{Run, call_of, is_call, is_running, runs, run_from, is_end, wants_bytes, halts, pause_of, nothing, printed_before, part_from, part, fed}
 use Rattle.rules.specs.Invariant.{Playing}
 use Rattle.rules.specs.Buffers.{Stands, rest_of, put_back}
-use Rattle.rules.proofs.Laws.Bools.{true_not_false, and_left, and_right, or_not_left, or_not_right}
+use Rattle.rules.proofs.Laws.Bools.{never, true_not_false, and_left, and_right, or_not_left, or_not_right}
 use Rattle.rules.proofs.Laws.Buffers.{stands_none, stands_kept, stands_rest, stands_fits, stands_more}
 use Rattle.rules.proofs.Laws.Replays.{read_step_plays}
 use Rattle.rules.proofs.Laws.Runs.{Continues, holding, call_moves, run_keeps, run_continues, run_moves}
 use Rattle.rules.proofs.Laws.Chunks.{going_steps, step_at, next_at, AfterStep, after_a_step, part_inside}
 use Rattle.rules.proofs.Laws.Chunks.AfterStep.{goes_on, stops, ends}
 use Rattle.calls.specs.Calls.{RanAs}
-use Rattle.steps.specs.Fed.{Feeds}
+use Rattle.std.specs.Prelude.{Option, Some, None}
+use Rattle.steps.specs.Fed.{paused, Feeds}
 use Rattle.steps.specs.OneStep.{DoesStep}
-use Rattle.rules.specs.declared.trace.Read.{Read}
-use Rattle.rules.specs.declared.replay.Phase.{Phase}
 use Rattle.rules.specs.declared.replay.Replay.{Replay}
 use Rattle.rules.specs.declared.replay.Pause.{Pause}
 use Rattle.rules.specs.declared.replay.Ran.{Ran}
+use Rattle.rules.specs.Results.{Read}
 
 -- ---- one step of a part
 module _ (f : ℕ) (last : Bool) (trace : List ℕ) (room at : ℕ) (s : Replay) where
@@ -58,43 +58,55 @@ unhalted last read room s e =
       wide = ltb-false room line_room (or_not_right (is_end read) _ here);
     }
 
+-- ---- the code's test, which says why where it halts
+module _ (last : Bool) (read : Read) (room : ℕ) (s : Replay) {o : Option Pause} (e : o ≡ paused last read room s) where
+  pub goes_on_there : o ≡ None → halts last read room s ≡ false
+  unfolding paused
+  goes_on_there i = go (halts last read room s) refl (sym e ∙ i)
+    where
+      go : (b : Bool) → halts last read room s ≡ b → ◌≡◌ {A = Option Pause} (cond b (Some (pause_of last read s)) None) None → halts last read room s ≡ false
+      go true h k = never (cc)
+      go false h k = h
+
+  pub halts_there : {p : Pause} → o ≡ Some p → (halts last read room s ≡ true) × (p ≡ pause_of last read s)
+  unfolding paused
+  halts_there {p} i = go (halts last read room s) refl (sym e ∙ i)
+    where
+      go : (b : Bool) → halts last read room s ≡ b → ◌≡◌ {A = Option Pause} (cond b (Some (pause_of last read s)) None) (Some p)
+          → (halts last read room s ≡ true) × (p ≡ pause_of last read s)
+      go true h k = (h, cc)
+      go false h k = never (cc)
+
 -- ---- the loop over a chunk: these bytes were printed, and what follows them is what these steps and one more make of the rest.
 -- A replay that has not stopped has a step for each byte that is left, so the one more is there to halt in.
-pub record Feeding (last : Bool) (trace : List ℕ) (place : ℕ) (s₀ : Replay) (o₀ o : List ℕ) (at count : ℕ) (read : Read)
-    (phase : Phase) (s : Replay) : Type 0 where
+pub record Feeding (last : Bool) (trace : List ℕ) (place : ℕ) (s₀ : Replay) (o₀ o : List ℕ) (at count : ℕ) (s : Replay) : Type 0 where
   pub steps : ℕ
   pub bytes : List ℕ
   pub front : Stands bytes o₀ o count
   pub all : part last trace (length o₀) place s₀ ≡ printed_before bytes (part_from (suc steps) last trace (length o₀ - count) at s)
   pub enough : is_stopped s.phase ≡ false → (1 ≤ steps) × (1 + length trace ≤ at + steps)
   pub plays : Playing s
-  pub found : read ≡ read_at trace at
-  pub same : s.phase ≡ phase
 
 -- it falls with each step
-abbrev pub left : List ℕ → ℕ → Phase → ℕ
-left trace at phase = cond (is_stopped phase) 0 (suc (length trace - at))
+abbrev pub left : List ℕ → ℕ → Replay → ℕ
+left trace at s = cond (is_stopped s.phase) 0 (suc (length trace - at))
 
-pub begun : (last : Bool) (trace : List ℕ) (place : ℕ) (s : Replay) (o : List ℕ) (read : Read) → Playing s
-    → read ≡ read_at trace place
-    → Feeding last trace place s o o place 0 read s.phase s
+pub begun : (last : Bool) (trace : List ℕ) (place : ℕ) (s : Replay) (o : List ℕ) → Playing s → Feeding last trace place s o o place 0 s
 unfolding part
-begun last trace place s o read plays found = record {
+begun last trace place s o plays = record {
   steps = suc (length trace);
   bytes = [];
   front = stands_none o;
   all = let e : 2 + length trace ≡ suc (suc (length trace)) = omega arith in rw (e, sub-zero);
   enough = λ e. (omega arith, omega arith);
   plays = plays;
-  found = found;
-  same = refl;
 }
 
-module _ {last : Bool} {trace : List ℕ} {place : ℕ} {s₀ : Replay} {o₀ o : List ℕ} {at count : ℕ} {read : Read} {phase : Phase}
-    {s : Replay} (v : Feeding last trace place s₀ o₀ o at count read phase s) where
+module _ {last : Bool} {trace : List ℕ} {place : ℕ} {s₀ : Replay} {o₀ o : List ℕ} {at count : ℕ} {s : Replay}
+    (v : Feeding last trace place s₀ o₀ o at count s) {read : Read} (found : read ≡ read_at trace at) where
   -- the tests of the code are of what is left of the buffer, those of the rule of its room
   told : (b : Bool) → halts last read (length o - count) s ≡ b → halts last (read_at trace at) (length o₀ - count) s ≡ b
-  told b e = rw (← v.found, ← stands_kept v.front) e
+  told b e = rw (← found, ← stands_kept v.front) e
 
   module _ (goes : halts last read (length o - count) s ≡ false) where
     known : Unhalted read (length o - count) s
@@ -107,16 +119,16 @@ module _ {last : Bool} {trace : List ℕ} {place : ℕ} {s₀ : Replay} {o₀ o 
     asks_little = omega (arith, asks)
 
     step_is : stepped (read_at trace at) s ≡ read_step read s
-    step_is = rw (← v.found) (going_steps read s known.on)
+    step_is = rw (← found) (going_steps read s known.on)
 
     moves : is_stopped (read_step read s).replay.phase ≡ false → (at < next_place read at) × (next_place read at ≤ length trace)
     unfolding is_end
-    moves e = rw v.found (go (after_a_step trace at s))
+    moves e = rw found (go (after_a_step trace at s))
       where
         go : AfterStep trace at s → (at < next_place (read_at trace at) at) × (next_place (read_at trace at) at ≤ length trace)
         go (goes_on a b) = (a, b)
         go (stops f) = absurd (true_not_false (rw step_is at f) e)
-        go (ends f) = absurd (true_not_false refl (rw (v.found, f) at known.there))
+        go (ends f) = absurd (true_not_false refl (rw (found, f) at known.there))
 
     more : (g : ℕ) → v.steps ≡ suc g
         → part last trace (length o₀) place s₀
@@ -125,16 +137,15 @@ module _ {last : Bool} {trace : List ℕ} {place : ℕ} {s₀ : Replay} {o₀ o 
         (read_step read s).replay)
     more g e =
         v.all ∙ ap (printed_before v.bytes) (part_goes v.steps last trace (length o₀ - count) at s (told false goes))
-        ∙ rw (e, step_is, ← v.found, ← sub-add-eq, append_assoc)
+        ∙ rw (e, step_is, ← found, ← sub-add-eq, append_assoc)
 
     module _ {r : ℕ} {after : Replay} {ys : List ℕ} (kept : length ys ≡ length (rest_of o count))
         (does : DoesStep (read_step read s) r after (rest_of o count) ys) where
-      pub steps_on : {at' : ℕ} {read' : Read} → at' ≡ next_place read at → read' ≡ read_at trace at'
-          → Feeding last trace place s₀ o₀ (put_back o count ys) at' (count + r) read' after.phase after
-      steps_on {at'} {read'} to found = go v.steps refl (v.enough known.on)
+      pub steps_on : {at' : ℕ} → at' ≡ next_place read at → Feeding last trace place s₀ o₀ (put_back o count ys) at' (count + r) after
+      steps_on {at'} to = go v.steps refl (v.enough known.on)
         where
           go : (f : ℕ) → v.steps ≡ f → (1 ≤ f) × (1 + length trace ≤ at + f)
-              → Feeding last trace place s₀ o₀ (put_back o count ys) at' (count + r) read' after.phase after
+              → Feeding last trace place s₀ o₀ (put_back o count ys) at' (count + r) after
           go zero e few = absurd (omega (arith, few.0))
           go (suc g) e few = record {
             steps = g;
@@ -143,12 +154,10 @@ module _ {last : Bool} {trace : List ℕ} {place : ℕ} {s₀ : Replay} {o₀ o 
             all = rw (to, does.1, does.0.0) (more g e);
             enough = λ on. let m = moves (rw does.1 at on) in (omega (arith, m.0, m.1, few.1), omega (arith, m.0, m.1, few.1));
             plays = rw does.1 (read_step_plays read s v.plays);
-            found = found;
-            same = refl;
           }
 
-      pub falls : {at' : ℕ} → at' ≡ next_place read at → left trace at' after.phase < left trace at phase
-      falls {at'} to = rw (← v.same, known.on, does.1) (go (is_stopped (read_step read s).replay.phase) refl)
+      pub falls : {at' : ℕ} → at' ≡ next_place read at → left trace at' after < left trace at s
+      falls {at'} to = rw (known.on, does.1) (go (is_stopped (read_step read s).replay.phase) refl)
         where
           go : (b : Bool) → is_stopped (read_step read s).replay.phase ≡ b
               → cond b 0 (suc (length trace - at')) < suc (length trace - at)
@@ -156,13 +165,13 @@ module _ {last : Bool} {trace : List ℕ} {place : ℕ} {s₀ : Replay} {o₀ o 
           go false e = let m = moves e in omega (arith, m.0, m.1)
 
     -- calls by the run: they are the next steps of the part
-    module _ {b : Bool} (f : b ≡ runs phase read) (t : b ≡ true) (n : ℕ) where
+    module _ {b : Bool} (f : b ≡ runs s.phase read) (t : b ≡ true) (n : ℕ) where
       on : runs s.phase read ≡ true
-      on = rw v.same (sym f ∙ t)
+      on = sym f ∙ t
 
       is : is_call (call_of (read_at trace at)) ≡ true
       unfolding runs
-      is = rw v.found at (and_right (is_running s.phase) (is_call (call_of read)) on)
+      is = rw found at (and_right (is_running s.phase) (is_call (call_of read)) on)
 
       awake : is_running s.phase ≡ true
       unfolding runs
@@ -175,9 +184,8 @@ module _ {last : Bool} {trace : List ℕ} {place : ℕ} {s₀ : Replay} {o₀ o 
       continues = run_continues last trace n v.steps (length (rest_of o count)) at s awake (v.enough known.on)
 
       module _ {r : Ran} {ys : List ℕ} (kept : length ys ≡ length (rest_of o count)) (ran : RanAs here r (rest_of o count) ys) where
-        pub run_steps : {read' : Read} → read' ≡ read_at trace r.place
-            → Feeding last trace place s₀ o₀ (put_back o count ys) r.place (count + r.count) read' phase (holding s r.state)
-        run_steps found = record {
+        pub run_steps : Feeding last trace place s₀ o₀ (put_back o count ys) r.place (count + r.count) (holding s r.state)
+        run_steps = record {
           steps = continues.steps;
           bytes = v.bytes ++ here.bytes;
           front = stands_more v.front here.bytes ys r.count ran.lines (stands_fits v.front here.bytes ys r.count ran.lines kept);
@@ -191,15 +199,13 @@ module _ {last : Bool} {trace : List ℕ} {place : ℕ} {s₀ : Replay} {o₀ o 
             up = v.plays.up;
             state = rw ran.state (run_keeps trace n (length (rest_of o count)) at v.plays.state);
           };
-          found = found;
-          same = v.same;
         }
 
-        pub run_falls : n ≡ length trace → left trace r.place phase < left trace at phase
+        pub run_falls : n ≡ length trace → left trace r.place (holding s r.state) < left trace at s
         run_falls all =
             let first = call_moves trace at is in
             let m = run_moves trace n (length (rest_of o count)) at s.state (omega (arith, first.0, first.1)) is asks in
-            rw (← v.same, known.on) (omega (arith, ran.place, m.0, m.1))
+            rw known.on (omega (arith, ran.place, m.0, m.1))
 
   module _ (halted : halts last read (length o - count) s ≡ true) where
     ended : part last trace (length o₀) place s₀ ≡ printed_before v.bytes (nothing at s)
@@ -209,7 +215,7 @@ module _ {last : Bool} {trace : List ℕ} {place : ℕ} {s₀ : Replay} {o₀ o 
         → Feeds last trace place s₀ (record { pause = pause; place = at; count = count; replay = s }) o₀ o
     unfolding fed
     feeds pause e = record {
-      answers = rw (ended, append-nil, e, v.found, v.front.front.0);
+      answers = rw (ended, append-nil, e, found, v.front.front.0);
       lines = rw (ended, append-nil) v.front.front;
       playing = v.plays;
       fits = v.front.within;

@@ -2,15 +2,16 @@
 // lines. What is cut at its end may be whole once more bytes come, so 17 is given at the trace's true end only.
 ghost use Rattle.std.specs.Prelude.{◌≡◌, ◌≤◌, length};
 ghost use Rattle.rules.specs.Replay.{beginning as beginning_of};
-ghost use Rattle.rules.specs.Chunks.{is_cut, is_end, wants_bytes, halts as halts_of, pause_of};
+ghost use Rattle.rules.specs.Chunks.{is_cut, wants_bytes};
 ghost use Rattle.rules.specs.Invariant.{Playing};
-ghost use Rattle.steps.specs.Fed.{Feeds, Prints, AtFront};
+ghost use Rattle.steps.specs.Fed.{paused, Feeds, Prints, AtFront};
 
-use crate::record::{follow, is_stopped};
+use crate::record::follow;
 use calls::{LINE_ROOM, next_place, run, runs};
 use rules::cost::Rates;
-use rules::replay::{Fed, Pause, Phase, Printed, Replay};
-use rules::trace::Read;
+use rules::refusals::Refusal;
+use rules::replay::{Fed, Pause, Phase, Replay};
+use rules::trace::Found;
 use rules::tree::Tree;
 
 // Where every replay begins: the root alone, and no model yet.
@@ -30,122 +31,92 @@ pub fn beginning() -> Replay
         parents: [0u8; 64],
         weights: [0u16; 64],
     };
-    let refused = controller::start::start(tree, rates, 0);
-    let state = refused.state;
     Replay {
         phase: Phase::Setup,
         tree,
         rates,
-        state,
+        state: controller::start::start(tree, rates, 0).state,
     }
 }
 
 // Nothing of a record is here, or not all of it.
-fn is_cut(read: Read) -> bool
+// Kept (point 2): `compare` asks the same of the kind and length that stand at a place, and each contract is by a definition
+// of its own (`Chunks.is_cut`, `Parts.is_cut`).
+#[tactic(auto, unfolding(rules::specs::Chunks::is_cut))]
+fn is_cut(read: Result<Option<Found>, Refusal>) -> bool
     ensures { result ≡ is_cut read }
 {
-    match read {
-        Read::Found(_, _) => false,
-        Read::End => true,
-        Read::Refused(x) => lines::number_of(x) == 17,
-    }
-}
-
-fn is_end(read: Read) -> bool
-    ensures { result ≡ is_end read }
-{
-    match read {
-        Read::Found(_, _) => false,
-        Read::End => true,
-        Read::Refused(_) => false,
-    }
+    matches!(read, Ok(None) | Err(Refusal::CutShort))
 }
 
 // More bytes may make a record whole, so 17 is given at the true end alone.
-fn wants_bytes(last: bool, read: Read) -> bool
+#[tactic(auto, unfolding(rules::specs::Chunks::wants_bytes))]
+fn wants_bytes(last: bool, read: Result<Option<Found>, Refusal>) -> bool
     ensures { result ≡ wants_bytes last read }
 {
-    is_cut(read) & !last
+    is_cut(read) && !last
 }
 
-// Does the replay stay where it is? `room` is what is left of the lent buffer.
-fn halts(last: bool, read: Read, room: usize, phase: Phase) -> bool
-    ensures { (s : Replay) → s.phase ≡ phase → result ≡ halts_of last read room s }
+// Why the replay stays where it is, if it does. `room` is what is left of the lent buffer.
+// Kept (point 5): what was read goes beside the replay here and in `record`: no struct would hold both for longer than a call.
+#[tactic(auto, unfolding(crate::specs::Fed::paused, rules::specs::Chunks::halts, rules::specs::Chunks::pause_of, rules::specs::Chunks::is_end))]
+fn pause_at(
+    last: bool,
+    read: Result<Option<Found>, Refusal>,
+    room: usize,
+    s: &Replay,
+) -> Option<Pause>
+    ensures { result ≡ paused last read room s.now }
 {
-    if is_stopped(phase) {
-        return true;
+    if matches!(s.phase, Phase::Stopped) {
+        Some(Pause::Over)
+    } else if wants_bytes(last, read) {
+        Some(Pause::Bytes)
+    } else if matches!(read, Ok(None)) {
+        Some(Pause::Over)
+    } else if room < LINE_ROOM {
+        Some(Pause::Room)
+    } else {
+        None
     }
-    if wants_bytes(last, read) {
-        return true;
-    }
-    if is_end(read) {
-        return true;
-    }
-    room < LINE_ROOM
-}
-
-// And why.
-fn pause_of(last: bool, read: Read, phase: Phase) -> Pause
-    ensures { (s : Replay) → s.phase ≡ phase → result ≡ pause_of last read s }
-{
-    if is_stopped(phase) {
-        return Pause::Over;
-    }
-    if wants_bytes(last, read) {
-        return Pause::Bytes;
-    }
-    if is_end(read) {
-        return Pause::Over;
-    }
-    Pause::Room
 }
 
 // For as long as the next record is whole and any record's lines have room: calls go by the run, other records one by one.
+// Kept (point 6): there is no heap, so the caller lends the buffer, and `count` is how much of it is written.
 pub fn feed(mut s: Replay, trace: &[u8], place: usize, last: bool, out: &mut [u8]) -> Fed
     requires { Playing s }
     ensures { Feeds last trace.now place s result out.old out.new }
 {
     let mut at = place;
     let mut count: usize = 0;
-    let mut read = trace::reader::read_from(trace, at);
-    let mut phase = s.phase;
-    while !halts(last, read, out.len() - count, phase) {
-        if runs(phase, read) {
+    loop {
+        let read = trace::reader::read_from(trace, at);
+        if let Some(pause) = pause_at(last, read, out.len() - count, &s) {
+            return Fed {
+                pause,
+                place: at,
+                count,
+                replay: s,
+            };
+        }
+        if runs(s.phase, read) {
             let ran = run(s.state, trace, at, trace.len(), &mut out[count..]);
             count += ran.count;
             at = ran.place;
-            let state = ran.state;
-            s.state = state;
-            read = trace::reader::read_from(trace, at);
+            s.state = ran.state;
         } else {
-            let step = follow(read, s, &mut out[count..]);
-            count += step.count;
+            count += follow(read, &mut s, &mut out[count..]);
             at = next_place(read, at);
-            let after = step.replay;
-            phase = after.phase;
-            s = after;
-            read = trace::reader::read_from(trace, at);
         }
-    }
-    Fed {
-        pause: pause_of(last, read, phase),
-        place: at,
-        count,
-        replay: s,
     }
 }
 
 // A whole lent trace.
-pub fn whole(trace: &[u8], out: &mut [u8]) -> Printed
+pub fn whole(trace: &[u8], out: &mut [u8]) -> Option<usize>
     ensures { Prints trace.now result out.old out.new }
 {
     let fed = feed(beginning(), trace, 0, true, out);
-    let pause = fed.pause;
-    match pause {
-        Pause::Over => Printed::Bytes(fed.count),
-        Pause::Bytes => Printed::Short,
-        Pause::Room => Printed::Short,
-    }
+    matches!(fed.pause, Pause::Over).then_some(fed.count)
 }
 
 // What is left of a chunk goes to its buffer's front, and the next bytes of the trace behind it.
@@ -153,9 +124,6 @@ pub fn carry(buf: &mut [u8], from: usize, to: usize) -> usize
     requires { (from ≤ to) × (to ≤ length buf.old) }
     ensures { AtFront from to result buf.old buf.new }
 {
-    let count = to - from;
-    for i in 0..count {
-        buf[i] = buf[from + i];
-    }
-    count
+    buf.copy_within(from..to, 0);
+    to - from
 }

@@ -1,13 +1,11 @@
-// The records of setup: a node, the model, start. A refused one stops the replay.
-ghost use Rattle.std.specs.Prelude.{◌≡◌, ◌≤◌, ◌<◌, length};
-ghost use Rattle.rules.specs.Numbers.{refusal_room};
+// The records of setup: a node, the model, start. One that is refused leaves the replay as it was.
+ghost use Rattle.std.specs.Prelude.{◌≡◌, ◌<◌, OnErr};
 ghost use Rattle.rules.specs.Replay.{grown as grown_of, record_step};
 ghost use Rattle.rules.specs.Invariant.{Playing};
-ghost use Rattle.steps.specs.OneStep.{DoesStep};
+ghost use Rattle.steps.specs.OneStep.{taken};
 
-use crate::record::{StepDone, stopped};
 use rules::cost::Rates;
-use rules::refusals::{Pricing, Refusal, Verdict};
+use rules::refusals::Refusal;
 use rules::replay::{Phase, Replay};
 use rules::trace::Record;
 use rules::tree::{Fault, Tree};
@@ -22,74 +20,42 @@ fn grown(mut tree: Tree, parent: u8, weight: u16) -> Tree
     let node = tree.count;
     tree.parents[node] = parent;
     tree.weights[node] = weight;
-    tree.count = node + 1;
+    tree.count += 1;
     tree
 }
 
 // "In a trace a node record is checked for its own faults": those that start would find in the tree so far.
-pub(crate) fn node(parent: u8, weight: u16, mut s: Replay, out: &mut [u8]) -> StepDone
-    requires { Playing s × (refusal_room ≤ length out.old) }
-    ensures { DoesStep (record_step (Record.Node parent weight) s) result.count result.replay out.old out.new }
+pub(crate) fn node(parent: u8, weight: u16, s: &mut Replay) -> Result<(), Refusal>
+    requires { Playing s.old }
+    ensures takes { record_step (Record.Node parent weight) s.old ≡ taken result s.new }
+    ensures kept { OnErr result (s.new ≡ s.old) }
 {
-    let tree = s.tree;
-    if NODES_MOST <= tree.count {
-        return stopped(Refusal::BadTree(Fault::Count), s, out);
+    if NODES_MOST <= s.tree.count {
+        return Err(Refusal::BadTree(Fault::Count));
     }
-    let next = grown(tree, parent, weight);
-    let found = tree::faults::newest(next);
-    if tree::faults::broken(found) {
-        return stopped(Refusal::BadTree(found), s, out);
-    }
+    let next = grown(s.tree, parent, weight);
+    tree::faults::newest(next)?;
     s.tree = next;
-    StepDone {
-        count: 0,
-        replay: s,
-    }
+    Ok(())
 }
 
-pub(crate) fn model(rates: Rates, s: Replay, out: &mut [u8]) -> StepDone
-    requires { refusal_room ≤ length out.old }
-    ensures { DoesStep (record_step (Record.Model rates) s) result.count result.replay out.old out.new }
+pub(crate) fn model(rates: Rates, s: &mut Replay) -> Result<(), Refusal>
+    ensures takes { record_step (Record.Model rates) s.old ≡ taken result s.new }
+    ensures kept { OnErr result (s.new ≡ s.old) }
 {
-    match cost::price(rates) {
-        Pricing::Refused(x) => stopped(x, s, out),
-        Pricing::Priced(_) => {
-            let tree = s.tree;
-            let state = s.state;
-            StepDone {
-                count: 0,
-                replay: Replay {
-                    phase: Phase::Priced,
-                    tree,
-                    rates,
-                    state,
-                },
-            }
-        }
-    }
+    cost::price(rates)?;
+    s.phase = Phase::Priced;
+    s.rates = rates;
+    Ok(())
 }
 
-pub(crate) fn start(time: u64, s: Replay, out: &mut [u8]) -> StepDone
-    requires { refusal_room ≤ length out.old }
-    ensures { DoesStep (record_step (Record.Start time) s) result.count result.replay out.old out.new }
+pub(crate) fn start(time: u64, s: &mut Replay) -> Result<(), Refusal>
+    ensures takes { record_step (Record.Start time) s.old ≡ taken result s.new }
+    ensures kept { OnErr result (s.new ≡ s.old) }
 {
-    let tree = s.tree;
-    let rates = s.rates;
-    let begun = controller::start::start(tree, rates, time);
-    let answer = begun.answer;
-    match answer {
-        Verdict::Refused(x) => stopped(x, s, out),
-        Verdict::Accepted => {
-            let state = begun.state;
-            StepDone {
-                count: 0,
-                replay: Replay {
-                    phase: Phase::Running,
-                    tree,
-                    rates,
-                    state,
-                },
-            }
-        }
-    }
+    let begun = controller::start::start(s.tree, s.rates, time);
+    begun.answer?;
+    s.phase = Phase::Running;
+    s.state = begun.state;
+    Ok(())
 }

@@ -2,16 +2,15 @@
 -- Assumes nothing.
 use mathlib.Core.Path.{◌≡◌, refl, sym, ap, ◌∙◌}
 use mathlib.Core.Bool.{Bool, true, false, cond, ◌&&◌}
-use Prim.Native.Nat.{ℕ, ◌+◌, ◌≤◌, ◌<◌}
+use Prim.Native.Nat.{ℕ, ◌≤◌, ◌<◌}
 use native.Mathlib.Omega.{arith}
-use borrow.Author.Tests.{le-leb, lt-leb, lt-ltb, le-ltb, leb-false}
+use borrow.Author.Tests.{leb-false}
 use lib.Dec.{leb}
-use lib.Seq.{set-get_or}
-use Rattle.rules.specs.Numbers.{nodes_most, queue_room, cost_most, debt_most}
+use Rattle.rules.specs.Numbers.{nodes_most, queue_room, cost_most}
 use Rattle.rules.specs.Words.{has}
 use Rattle.rules.specs.Cost.{is_forced, bio_in_range}
 use Rattle.rules.specs.Tree.{is_leaf}
-use Rattle.rules.specs.Budget.{empty_row, empty_queue, row_at, queue_at, share_at, put_leaf, noted, fits, rebased, reshared, entered, row_after, queue_after, ends_donation, answer_in, applied, settled, submission, would_be}
+use Rattle.rules.specs.Budget.{row_at, queue_at, share_at, put_leaf, fits, rebased, reshared, entered, row_after, queue_after, ends_donation, answer_in, applied, settled, submission, would_be}
 use Rattle.rules.specs.Refusals.{first_of, cost_checks, room_checks, submit_checks}
 use Rattle.rules.specs.Entries.{costing, submitted_by, submitted}
 use Rattle.rules.specs.Question.{unless_refused, when_active}
@@ -20,9 +19,9 @@ use Rattle.rules.proofs.Laws.Costs.{priced_sound}
 use Rattle.rules.proofs.Laws.Trees.{leaf_last, last_most}
 use Rattle.rules.proofs.Laws.Resharing.{Reweighed, active_with, activated_is, entering_keeps, entering_reweighs, entered_is_active}
 use Rattle.rules.proofs.Laws.Submits.{cost_in, reweighed_debt, reweighed_queue, reweighed_cost}
-use Rattle.rules.proofs.Laws.Bools.{never, true_not_false}
+use Rattle.rules.proofs.Laws.Bools.{never}
 use Rattle.rules.proofs.Laws.Verdicts.{first_refused}
-use Rattle.rules.proofs.Laws.Answers.{answer_by_count, issued_fits, no_refusal}
+use Rattle.rules.proofs.Laws.Answers.{answer_by_count, issued_fits}
 use Rattle.rules.proofs.Laws.Decisions.{entered_active}
 use Rattle.rules.proofs.Laws.Questions.{uncosted_refuses, idle_has_room, costed_in_range, costed_the_cost, costed_within, room_is_left}
 use Rattle.rules.specs.declared.units.Abs.{Abs}
@@ -31,127 +30,59 @@ use Rattle.rules.specs.declared.tree.Tree.{Tree}
 use Rattle.rules.specs.declared.budget.Row.{Row}
 use Rattle.rules.specs.declared.budget.Queue.{Queue}
 use Rattle.rules.specs.declared.budget.Controller.{Controller}
-use Rattle.rules.specs.declared.budget.Submitted.{Submitted}
 use Rattle.rules.specs.declared.refusals.Refusal.{Refusal}
-use Rattle.rules.specs.declared.refusals.Refusal.TheVariants.{NoLeaf, QueueFull, DebtFull}
-use Rattle.rules.specs.declared.refusals.Verdict.{Verdict}
-use Rattle.rules.specs.declared.refusals.Verdict.TheVariants.{Accepted, Refused}
-use Rattle.rules.specs.declared.refusals.Costing.{Costing}
-use Rattle.rules.specs.declared.refusals.Costing.TheVariants.{Costs, Refused as Uncosted}
+use Rattle.rules.specs.declared.refusals.Refusal.TheVariants.{NoLeaf, QueueFull}
 use Rattle.rules.specs.declared.refusals.Answer.{Answer}
-use Rattle.rules.specs.declared.refusals.Answer.TheVariants.{Issued, Waits, OnDebt, Refused as Declined}
+use Rattle.rules.specs.declared.refusals.Answer.TheVariants.{Issued, Waits, OnDebt}
 use Rattle.leaf.specs.Alone.{length_only, answer_with}
-use Rattle.submit.specs.declared.Queueing.{Queueing}
-use Rattle.submit.specs.declared.Queueing.TheVariants.{Stays, Joins}
-use Rattle.submit.specs.declared.Judged.{Judged}
-use Rattle.submit.specs.OnLeaf.{is_taken, queueing, queued, booked_by, on_leaf}
+use Rattle.submit.specs.OnLeaf.{queueing, queued, booked_by}
+use Rattle.std.specs.Prelude.{Err, Ok, Some}
+use Rattle.rules.specs.Results.{Answered, Submitted, Verdict, Costing}
 
--- ---- refusals 7 and 8
-module _ (a : Answer) (cost : Abs) (row : Row) (n : ℕ) where
-  pub full : a ≡ Waits → queue_room ≤ n → Refused QueueFull ≡ first_of (room_checks a cost row (length_only n))
-  unfolding room_checks
-  full e l = rw (e, le-leb queue_room n l)
-
-  pub place : a ≡ Waits → n < queue_room → Accepted ≡ first_of (room_checks a cost row (length_only n))
-  unfolding room_checks
-  place e l = rw (e, lt-leb queue_room n l)
-
-  pub over : a ≡ OnDebt → debt_most < row.debt.0 + cost.0 → Refused DebtFull ≡ first_of (room_checks a cost row (length_only n))
-  unfolding room_checks
-  over e l = rw (e, lt-ltb debt_most (row.debt.0 + cost.0) l)
-
-  pub under : a ≡ OnDebt → row.debt.0 + cost.0 ≤ debt_most → Accepted ≡ first_of (room_checks a cost row (length_only n))
-  unfolding room_checks
-  under e l = rw (e, le-ltb debt_most (row.debt.0 + cost.0) l)
-
-  pub issues : a ≡ Issued → Accepted ≡ first_of (room_checks a cost row (length_only n))
-  unfolding room_checks
-  issues e = rw e
-
-  pub declines : (x : Refusal) → a ≡ Declined x → Accepted ≡ first_of (room_checks a cost row (length_only n))
-  unfolding room_checks
-  declines x e = rw e
-
--- ---- a bio on its leaf: the answer and the verdict, as the code works them out
-placed : (cost : Abs) (row : Row) (n : ℕ) → first_of (room_checks Waits cost row (length_only n)) ≡ Accepted → n < queue_room
+-- ---- a bio on its leaf
+placed : (cost : Abs) (row : Row) (n : ℕ) → first_of (room_checks Waits cost row (length_only n)) ≡ Ok tt → n < queue_room
 unfolding room_checks
 placed cost row n = go (leb queue_room n) refl
   where
-    go : (t : Bool) → leb queue_room n ≡ t → cond t (Refused QueueFull) Accepted ≡ Accepted → n < queue_room
+    go : (t : Bool) → leb queue_room n ≡ t → ◌≡◌ {A = Verdict} (cond t (Err QueueFull) (Ok tt)) (Ok tt) → n < queue_room
     go true e i = never (cc)
     go false e i = leb-false queue_room n e
 
--- the answer of an active leaf, by what the code finds
-module _ (forced : Bool) (cost : Abs) (share : ℕ) (row : Row) (waiting : ℕ) {answer : Answer} {verdict : Verdict}
-    (a : answer ≡ answer_with forced cost share row waiting) (v : verdict ≡ first_of (room_checks answer cost row (length_only waiting)))
-  where
-    by_room : unless_refused verdict answer ≡ when_active forced cost share row waiting
-    unfolding when_active
-    by_room = rw (v, a)
-
-    pub answers : verdict ≡ Accepted → answer ≡ when_active forced cost share row waiting
-    unfolding unless_refused
-    answers e = rw e at by_room
-
-    pub refuses : (x : Refusal) → verdict ≡ Refused x → Declined x ≡ when_active forced cost share row waiting
-    unfolding unless_refused
-    refuses x e = rw e at by_room
-
 -- a bio that is to wait has a place, and one that is issued fits
 module _ (forced : Bool) (cost : Abs) (share : ℕ) (row : Row) (waiting : ℕ) where
-  pub waits_with_room : when_active forced cost share row waiting ≡ Waits → waiting < queue_room
+  pub waits_with_room : when_active forced cost share row waiting ≡ Ok Waits → waiting < queue_room
   unfolding when_active unless_refused
   waits_with_room =
       let answer : Answer = answer_with forced cost share row waiting in
       go answer (first_of (room_checks answer cost row (length_only waiting))) refl
     where
-      go : (a : Answer) (v : Verdict) → first_of (room_checks a cost row (length_only waiting)) ≡ v → unless_refused v a ≡ Waits → waiting < queue_room
-      go a Accepted f i = placed cost row waiting (rw i at f)
-      go a (Refused x) f i = never (cc)
+      go : (a : Answer) (v : Verdict) → first_of (room_checks a cost row (length_only waiting)) ≡ v → unless_refused v a ≡ Ok Waits → waiting < queue_room
+      go a (Ok tt) f i = let e : a ≡ Waits = cc in placed cost row waiting (rw e at f)
+      go a (Err x) f i = never (cc)
 
-  pub issues_what_fits : when_active forced cost share row waiting ≡ Issued → fits cost share row ≡ true
+  pub issues_what_fits : when_active forced cost share row waiting ≡ Ok Issued → fits cost share row ≡ true
   unfolding when_active unless_refused
   issues_what_fits e =
       issued_fits cost share row (length_only waiting) forced
       (go (answer_with forced cost share row waiting) (first_of (room_checks (answer_with forced cost share row waiting) cost row (length_only waiting))) e)
     where
-      go : (a : Answer) (v : Verdict) → unless_refused v a ≡ Issued → a ≡ Issued
-      go a Accepted i = i
-      go a (Refused x) i = never (cc)
+      go : (a : Answer) (v : Verdict) → unless_refused v a ≡ Ok Issued → a ≡ Issued
+      go a (Ok tt) i = cc
+      go a (Err x) i = never (cc)
 
--- what an answer leaves, as the code works it out
-module _ (b : Bio) (cost : Abs) (share : ℕ) (row : Row) where
-  pub books : (a : Answer) → is_taken a ≡ true → {taken last : Row} {q : Queueing}
-      → taken ≡ row_after a cost share row → last ≡ noted b taken → q ≡ queueing a cost
-      → ◌≡◌ {A = Judged} (record { answer = a; row = last; queue = q }) (booked_by a b cost share row)
-  unfolding booked_by
-  books Issued k t l q = rw (l, q, t)
-  books Waits k t l q = rw (l, q, t)
-  books OnDebt k t l q = rw (l, q, t)
-  books (Declined x) k t l q = absurd (true_not_false k refl)
+-- only a bio that is to wait joins the queue
+pub joins_to_wait : (a : Answer) (cost : Abs) {k : Abs} → queueing a cost ≡ Some k → a ≡ Waits
+unfolding queueing
+joins_to_wait Issued cost e = never (cc)
+joins_to_wait Waits cost e = refl
+joins_to_wait OnDebt cost e = never (cc)
 
-  pub books_nothing : (a : Answer) → is_taken a ≡ false → ◌≡◌ {A = Judged} (record { answer = a; row = row; queue = Stays }) (booked_by a b cost share row)
-  unfolding booked_by
-  books_nothing Issued k = absurd (true_not_false refl k)
-  books_nothing Waits k = absurd (true_not_false refl k)
-  books_nothing OnDebt k = absurd (true_not_false refl k)
-  books_nothing (Declined x) k = refl
-
-  -- only a bio that is to wait joins the queue
-  pub joins_to_wait : (a : Answer) {k : Abs} → (booked_by a b cost share row).queue ≡ Joins k → a ≡ Waits
-  unfolding booked_by queueing
-  joins_to_wait Issued e = never (cc)
-  joins_to_wait Waits e = refl
-  joins_to_wait OnDebt e = never (cc)
-  joins_to_wait (Declined x) e = never (cc)
-
-  -- no bio adds to its leaf's budget
-  pub no_budget_gained : (a : Answer) → (booked_by a b cost share row).row.budget.0 ≤ row.budget.0
-  unfolding booked_by row_after
-  no_budget_gained Issued = omega arith
-  no_budget_gained Waits = omega arith
-  no_budget_gained OnDebt = omega arith
-  no_budget_gained (Declined x) = omega arith
+-- no bio adds to its leaf's budget
+pub no_budget_gained : (b : Bio) (cost : Abs) (share : ℕ) (row : Row) (a : Answer) → (booked_by a b cost share row).budget.0 ≤ row.budget.0
+unfolding row_after
+no_budget_gained b cost share row Issued = omega arith
+no_budget_gained b cost share row Waits = omega arith
+no_budget_gained b cost share row OnDebt = omega arith
 
 -- ---- the bio's node
 pub leaf_node : (t : Tree) (n : ℕ) → SoundTree t → is_leaf t n ≡ true → n < nodes_most
@@ -179,20 +110,17 @@ pub record Ready (b : Bio) (cost : Abs) (c : Controller) : Type 0 where
   pub same : cost ≡ cost_in c b
   pub cheap : cost.0 ≤ cost_most
 
-abbrev put : Bio → ℕ → Judged → Controller → Controller
-put b n j c = put_leaf n j.row (queued j.queue b.id (queue_at c n)) c
+abbrev put : Bio → ℕ → Answer → Abs → Controller → Controller
+put b n a cost c =
+    put_leaf n (booked_by a b cost (share_at c n) (row_at c n)) (queued (queueing a cost) b.id (queue_at c n)) c
 
 -- "4. If the bio waited .."
-abbrev pub landed : Bio → ℕ → Judged → Controller → Submitted
-landed b n j c = record {
-  answer = j.answer;
-  state = cond (ends_donation j.answer && has c.donors n) (rebased c.active (put b n j c)) (put b n j c);
+abbrev pub landed : Bio → ℕ → Answered → Abs → Controller → Submitted
+landed b n (Ok a) cost c = record {
+  answer = Ok a;
+  state = cond (ends_donation a && has c.donors n) (rebased c.active (put b n a cost c)) (put b n a cost c);
 }
-
-judged_is : {b : Bio} {cost : Abs} {c : Controller} → Ready b cost c → {n share : ℕ} → n ≡ b.node → share ≡ share_at c n → {j : Judged}
-    → j ≡ on_leaf b cost share (row_at c n) (queue_at c n).len
-    → j ≡ on_leaf b (cost_in c b) (share_at c b.node) (row_at c b.node) (queue_at c b.node).len
-judged_is ready m s e = e ∙ rw (s, m, ready.same)
+landed b n (Err x) cost c = record { answer = Err x; state = c }
 
 -- ---- what the code finds at its own copy of the bio's node
 pub found : (b : Bio) (c : Controller) {n : ℕ} {k x : Costing} → n ≡ b.node → k ≡ costing c.model (row_at c n) b → k ≡ x
@@ -209,72 +137,47 @@ unfolding queued queueing queue_after
 queued_is Issued cost id q = refl
 queued_is Waits cost id q = refl
 queued_is OnDebt cost id q = refl
-queued_is (Declined x) cost id q = refl
-
--- what a bio comes to on its leaf, by the verdict on its room
-abbrev on_leaf_by : Verdict → Answer → Bio → Abs → ℕ → Row → Judged
-on_leaf_by Accepted answer b cost share row =
-    record { answer = answer; row = noted b (row_after answer cost share row); queue = queueing answer cost }
-on_leaf_by (Refused x) answer b cost share row = record { answer = Declined x; row = row; queue = Stays }
-
-on_leaf_by_lem : (b : Bio) (cost : Abs) (share : ℕ) (row : Row) (waiting : ℕ)
-    → on_leaf b cost share row waiting
-    ≡ on_leaf_by (first_of (room_checks (answer_with (is_forced b) cost share row waiting) cost row (length_only waiting)))
-    (answer_with (is_forced b) cost share row waiting) b cost share row
-unfolding on_leaf when_active unless_refused booked_by
-on_leaf_by_lem b cost share row waiting =
-    let answer : Answer = answer_with (is_forced b) cost share row waiting in
-    go answer (first_of (room_checks answer cost row (length_only waiting))) (no_refusal cost share row (length_only waiting) (is_forced b))
-  where
-    go : (a : Answer) (v : Verdict) → ((x : Refusal) → a ≡ Declined x → ⊥)
-        → booked_by (unless_refused v a) b cost share row ≡ on_leaf_by v a b cost share row
-    go Issued Accepted h = refl
-    go Waits Accepted h = refl
-    go OnDebt Accepted h = refl
-    go (Declined x) Accepted h = absurd (h x refl)
-    go a (Refused x) h = refl
 
 -- what is judged in a state, by the verdict there
 abbrev judged_by : Verdict → Bio → Controller → Submitted
-judged_by v b c =
-    landed b b.node (on_leaf_by v (answer_in c b) b (cost_in c b) (share_at c b.node) (row_at c b.node)) c
+judged_by v b c = landed b b.node (unless_refused v (answer_in c b)) (cost_in c b) c
 
 abbrev judged : Bio → Controller → Submitted
-judged b c = landed b b.node (on_leaf b (cost_in c b) (share_at c b.node) (row_at c b.node) (queue_at c b.node).len) c
+judged b c =
+    landed b b.node (when_active (is_forced b) (cost_in c b) (share_at c b.node) (row_at c b.node) (queue_at c b.node).len) (cost_in c b) c
 
 -- of the queue the verdict looks at how many wait
 by_verdict : (b : Bio) (c : Controller)
     → judged b c ≡ judged_by (first_of (room_checks (answer_in c b) (cost_in c b) (row_at c b.node) (queue_at c b.node))) b c
-unfolding answer_in room_checks
+unfolding answer_in room_checks when_active
 by_verdict b c =
-    ap (λ (j : Judged). landed b b.node j c) (on_leaf_by_lem b (cost_in c b) (share_at c b.node) (row_at c b.node) (queue_at c b.node).len)
-    ∙ ap (λ (a : Answer). landed b b.node (on_leaf_by (first_of (room_checks a (cost_in c b) (row_at c b.node) (queue_at c b.node))) a b (cost_in c b) (share_at c b.node) (row_at c b.node)) c)
+    ap (λ (a : Answer). landed b b.node (unless_refused (first_of (room_checks a (cost_in c b) (row_at c b.node) (queue_at c b.node))) a) (cost_in c b) c)
     (sym (answer_by_count (is_forced b) (cost_in c b) (share_at c b.node) (row_at c b.node) (queue_at c b.node)))
 
 alike : (b : Bio) (c : Controller) (v : Verdict) → entered b.node c ≡ c → judged_by v b c ≡ submitted_by v b c
-unfolding submitted_by submission would_be settled applied queued
-alike b c Accepted t = rw (queued_is (answer_in c b) (cost_in c b) b.id (queue_at c b.node), t)
-alike b c (Refused x) t = rw (set-get_or c.rows b.node empty_row, set-get_or c.queues b.node empty_queue)
+unfolding submitted_by submission would_be settled applied unless_refused
+alike b c (Ok tt) t = rw (queued_is (answer_in c b) (cost_in c b) b.id (queue_at c b.node), t)
+alike b c (Err x) t = refl
 
-woken_alike : (b : Bio) (c : Controller) → judged_by Accepted b (entered b.node c) ≡ submitted_by Accepted b c
-unfolding submitted_by submission would_be settled applied
+woken_alike : (b : Bio) (c : Controller) → judged_by (Ok tt) b (entered b.node c) ≡ submitted_by (Ok tt) b c
+unfolding submitted_by submission would_be settled applied unless_refused
 woken_alike b c =
     let d : Controller = entered b.node c in
     rw (queued_is (answer_in d b) (cost_in d b) b.id (queue_at d b.node))
 
 module _ {c : Controller} (s : Sound c) (b : Bio) where
-  pub no_leaf_lem : is_leaf c.tree b.node ≡ false → ◌≡◌ {A = Submitted} (record { answer = Declined NoLeaf; state = c }) (submitted b c)
+  pub no_leaf_lem : is_leaf c.tree b.node ≡ false → ◌≡◌ {A = Submitted} (record { answer = Err NoLeaf; state = c }) (submitted b c)
   unfolding submitted submitted_by submit_checks
   no_leaf_lem e = rw e
 
   module _ (leaf : is_leaf c.tree b.node ≡ true) where
-    pub unfit : (x : Refusal) → costing c.model (row_at c b.node) b ≡ Uncosted x → ◌≡◌ {A = Submitted} (record { answer = Declined x; state = c }) (submitted b c)
+    pub unfit : (x : Refusal) → costing c.model (row_at c b.node) b ≡ Err x → ◌≡◌ {A = Submitted} (record { answer = Err x; state = c }) (submitted b c)
     unfolding submitted submitted_by submit_checks
     unfit x e =
         rw leaf
         (ap (λ (v : Verdict). submitted_by v b c) (sym (first_refused (cost_checks c.model (row_at c b.node) b) _ x (uncosted_refuses c.model (row_at c b.node) b x e))))
 
-    module _ (cost : Abs) (e : costing c.model (row_at c b.node) b ≡ Costs cost) where
+    module _ (cost : Abs) (e : costing c.model (row_at c b.node) b ≡ Ok cost) where
       pub ready_there : {n : ℕ} {d : Controller} → n ≡ b.node → d ≡ entered n c → Ready b cost d
       ready_there m i =
           rw (i, m)
@@ -308,10 +211,9 @@ module _ {c : Controller} (s : Sound c) (b : Bio) where
           (sym (room_is_left s b leaf cost e ∙ idle_has_room (would_be c b) (cost_in c b) (row_at c b.node) (queue_at c b.node) here.no_debt here.no_waiter
           (costed_within b c cost e)))
 
-      pub submits : {n share : ℕ} {d : Controller} {j : Judged} {r : Submitted} → n ≡ b.node → d ≡ entered n c → share ≡ share_at d n
-          → j ≡ on_leaf b cost share (row_at d n) (queue_at d n).len → r ≡ landed b n j d → r ≡ submitted b c
-      submits {n} {share} {d} {j} m i h e l =
-          l ∙ rw (judged_is (ready_there m i) m h e, i, m) (go (has c.active b.node) refl)
+      pub submits : {n : ℕ} {d : Controller} → n ≡ b.node → d ≡ entered n c
+          → landed b n (when_active (is_forced b) cost (share_at d n) (row_at d n) (queue_at d n).len) cost d ≡ submitted b c
+      submits {n} {d} m i = rw (m, (ready_there m i).same, i, m) (go (has c.active b.node) refl)
         where
           go : (t : Bool) → has c.active b.node ≡ t → judged b (entered b.node c) ≡ submitted b c
           go true on = in_place on

@@ -1,7 +1,7 @@
 -- The text of records of each kind and each line in each of its cases, as a reader sees them: a name, a number or a side in
 -- another's place is refused here.
 -- Assumes nothing.
-use Rattle.std.specs.Prelude.{◌≡◌, refl, true, List, [], ◌∷◌, ℕ, ◌-◌, ◌^◌}
+use Rattle.std.specs.Prelude.{◌≡◌, refl, true, List, [], ◌∷◌, ℕ, ◌-◌, ◌^◌, Some, None}
 use Prim.Native.String.{String}
 use Rattle.rules.specs.Bench.Edges.{Seen, see, all_same}
 use Rattle.rules.specs.Trace.{fields_of}
@@ -12,9 +12,8 @@ use Rattle.rules.specs.declared.tree.Fault.TheVariants.{Level}
 use Rattle.rules.specs.declared.trace.Record.{Record}
 use Rattle.rules.specs.declared.trace.Record.TheVariants.{Node, Model, Start, Bio as BioOf, Tick, Plan, Vrate, Weight}
 use Rattle.comparison.specs.declared.Side.TheVariants.{First, Second}
-use Rattle.comparison.specs.declared.Difference.TheVariants.{At, Nothing}
-use Rattle.comparison.specs.declared.Ends.TheVariants.{First as EndsFirst, Second as EndsSecond, Neither, Untold}
-use Rattle.comparison.specs.declared.Likeness.TheVariants.{Equal, Prefix, Different, Untold as Unlikened}
+use Rattle.comparison.specs.declared.Likeness.TheVariants.{Equal, Prefix, Different}
+use Rattle.trace.specs.declared.kind.Kind.TheVariants.{Bio as BioKind, Tick as TickKind}
 use Rattle.text.specs.Words.{bytes}
 use Rattle.text.specs.Text.{name_of, record_text}
 use Rattle.text.specs.Lines.{differs_line, ends_line, rest_line, likeness_line, error_line, difference_line, rest_length_line}
@@ -41,21 +40,21 @@ cases =
     ∷ reads (record_text (Weight 3 500)) "weight 3 500"
     ∷ reads (differs_line 4 66 67 (bio 7) (bio 8)) "differs 4 66 67 bio 1 2 7 34 4096 | bio 1 2 8 34 4096\n"
     ∷ reads (differs_line 9 88 89 Plan (Tick 5)) "differs 9 88 89 plan | tick 5\n"
-    ∷ reads (ends_line (EndsFirst 7)) "ends first 7\n"
-    ∷ reads (ends_line (EndsSecond 7)) "ends second 7\n"
-    ∷ reads (ends_line (Neither 8)) "ends neither 8\n"
-    ∷ reads (ends_line Untold) ""
+    ∷ reads (ends_line (Some (record { side = Some First; records = 7 }))) "ends first 7\n"
+    ∷ reads (ends_line (Some (record { side = Some Second; records = 7 }))) "ends second 7\n"
+    ∷ reads (ends_line (Some (record { side = None; records = 8 }))) "ends neither 8\n"
+    ∷ reads (ends_line None) ""
     ∷ reads (rest_line First 0) "rest first 0\n"
     ∷ reads (rest_line Second 19) "rest second 19\n"
-    ∷ reads (likeness_line Equal) "equal\n"
-    ∷ reads (likeness_line Prefix) "prefix\n"
-    ∷ reads (likeness_line Different) "different\n"
-    ∷ reads (likeness_line Unlikened) ""
+    ∷ reads (likeness_line (Some Equal)) "equal\n"
+    ∷ reads (likeness_line (Some Prefix)) "prefix\n"
+    ∷ reads (likeness_line (Some Different)) "different\n"
+    ∷ reads (likeness_line None) ""
     ∷ reads (error_line First CutShort 57) "error first 17 57\n"
     ∷ reads (error_line Second UnknownKind 8) "error second 16 8\n"
     ∷ reads (error_line Second (BadTree (Level 63)) 0) "error second 23 0\n"
-    ∷ reads (difference_line (At 6 4 5)) "difference 6 4 5\n"
-    ∷ reads (difference_line Nothing) "difference none\n"
+    ∷ reads (difference_line (Some (record { number = 6; first = BioKind; second = TickKind }))) "difference 6 4 5\n"
+    ∷ reads (difference_line None) "difference none\n"
     ∷ reads (rest_length_line 57) "rest 57\n"
     ∷ []
 

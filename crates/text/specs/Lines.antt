@@ -1,17 +1,16 @@
 -- The lines of a comparison of two traces: words, and numbers in decimals behind them. How a record reads is in Text.
 -- Assumes nothing.
-use Rattle.std.specs.Prelude.{List, [], ◌∷◌, ◌++◌, ℕ, ◌+◌, ◌*◌}
+use Rattle.std.specs.Prelude.{List, [], ◌∷◌, ◌++◌, ℕ, ◌+◌, ◌*◌, Option, Some, None}
 use Rattle.rules.specs.Refusals.{number}
 use Rattle.rules.specs.declared.refusals.Refusal.{Refusal}
 use Rattle.rules.specs.declared.trace.Record.{Record}
 use Rattle.comparison.specs.declared.Side.{Side}
 use Rattle.comparison.specs.declared.Side.TheVariants.{First, Second}
 use Rattle.comparison.specs.declared.Difference.{Difference}
-use Rattle.comparison.specs.declared.Difference.TheVariants.{At, Nothing}
 use Rattle.comparison.specs.declared.Ends.{Ends}
-use Rattle.comparison.specs.declared.Ends.TheVariants.{First as EndsFirst, Second as EndsSecond, Neither, Untold}
 use Rattle.comparison.specs.declared.Likeness.{Likeness}
-use Rattle.comparison.specs.declared.Likeness.TheVariants.{Equal, Prefix, Different, Untold as Unlikened}
+use Rattle.comparison.specs.declared.Likeness.TheVariants.{Equal, Prefix, Different}
+use Rattle.trace.specs.Kinds.{code}
 use Rattle.text.specs.Words.{bytes}
 use Rattle.text.specs.Text.{worded, field_room, record_text, text_room}
 
@@ -23,34 +22,36 @@ unfoldable pub differs_line : ℕ → ℕ → ℕ → Record → Record → List
 differs_line n first second r s =
     worded (bytes "differs") (n ∷ first ∷ second ∷ []) ++ (bytes " " ++ record_text r) ++ (bytes " | " ++ record_text s) ++ bytes "\n"
 
+-- a side, or neither
+abbrev pub side_word : Option Side → List ℕ
+side_word (Some First) = bytes "first"
+side_word (Some Second) = bytes "second"
+side_word None = bytes "neither"
+
 -- "say which trace ends first, or neither, .."; nothing beside an error
-unfoldable pub ends_line : Ends → List ℕ
-ends_line (EndsFirst n) = word_line (bytes "ends first") (n ∷ [])
-ends_line (EndsSecond n) = word_line (bytes "ends second") (n ∷ [])
-ends_line (Neither n) = word_line (bytes "ends neither") (n ∷ [])
-ends_line Untold = []
+unfoldable pub ends_line : Option Ends → List ℕ
+ends_line (Some e) = word_line (bytes "ends " ++ side_word e.side) (e.records ∷ [])
+ends_line None = []
 
 -- "hand back the remaining records ..": of which trace, and how many bytes they take
 unfoldable pub rest_line : Side → ℕ → List ℕ
-rest_line First n = word_line (bytes "rest first") (n ∷ [])
-rest_line Second n = word_line (bytes "rest second") (n ∷ [])
+rest_line side n = word_line (bytes "rest " ++ side_word (Some side)) (n ∷ [])
 
 -- nothing beside an error
-unfoldable pub likeness_line : Likeness → List ℕ
-likeness_line Equal = word_line (bytes "equal") []
-likeness_line Prefix = word_line (bytes "prefix") []
-likeness_line Different = word_line (bytes "different") []
-likeness_line Unlikened = []
+unfoldable pub likeness_line : Option Likeness → List ℕ
+likeness_line (Some Equal) = word_line (bytes "equal") []
+likeness_line (Some Prefix) = word_line (bytes "prefix") []
+likeness_line (Some Different) = word_line (bytes "different") []
+likeness_line None = []
 
 -- "Trace errors 16 and 17 are reported with the side ..": the number, and the place where the record begins
 unfoldable pub error_line : Side → Refusal → ℕ → List ℕ
-error_line First x place = word_line (bytes "error first") (number x ∷ place ∷ [])
-error_line Second x place = word_line (bytes "error second") (number x ∷ place ∷ [])
+error_line side x place = word_line (bytes "error " ++ side_word (Some side)) (number x ∷ place ∷ [])
 
 -- ---- the answers as they are: "give the first record .. where both traces have one and they differ, with the kinds on both sides, or none"
-unfoldable pub difference_line : Difference → List ℕ
-difference_line (At n first second) = word_line (bytes "difference") (n ∷ first ∷ second ∷ [])
-difference_line Nothing = word_line (bytes "difference none") []
+unfoldable pub difference_line : Option Difference → List ℕ
+difference_line (Some d) = word_line (bytes "difference") (d.number ∷ code d.first ∷ code d.second ∷ [])
+difference_line None = word_line (bytes "difference none") []
 
 -- how many bytes the rest takes
 abbrev pub rest_length_line : ℕ → List ℕ

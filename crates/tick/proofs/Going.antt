@@ -13,7 +13,7 @@ use Rattle.rules.specs.Numbers.{nodes_most, leaf_most}
 use Rattle.rules.specs.Words.{sum_to, join_to, table, has, set_of}
 use Rattle.rules.specs.Budget.{row_at, queue_at, share_at, empty_row, empty_queue, with_clock, with_books}
 use Rattle.rules.specs.Tick.{Turn, no_release, and_capped, and_repaid, growth, advanced, release_in, turn, turn_of, releases, lent_after, tick, waiting_all}
-use Rattle.rules.specs.Entries.{ticked_by, lent_by}
+use Rattle.tick.specs.Passing.{Released}
 use Rattle.rules.specs.Invariant.{Sound, TickPasses}
 use Rattle.rules.proofs.Laws.Buffers.{stands_none, stands_rest, stands_more}
 use Rattle.rules.proofs.Laws.Sums.{sum_step, sum_le, sum_part, length_join, join_step}
@@ -27,9 +27,6 @@ use Rattle.rules.specs.declared.budget.Row.{Row}
 use Rattle.rules.specs.declared.budget.Queue.{Queue}
 use Rattle.rules.specs.declared.budget.Clock.{Clock}
 use Rattle.rules.specs.declared.budget.Controller.{Controller}
-use Rattle.rules.specs.declared.budget.Ticked.{Ticked}
-use Rattle.rules.specs.declared.refusals.Count.TheVariants.{Released}
-use Rattle.rules.specs.declared.refusals.Verdict.TheVariants.{Accepted}
 use Rattle.sets.specs.Lowest.{Lowest}
 use Rattle.sets.specs.Visit.{Passed, root_passed, nothing_left, not_before, member, none_between, passes}
 use Rattle.leaf.specs.Alone.{length_only}
@@ -70,10 +67,6 @@ pub record Walking (g : Virt) (c : Controller) (lent : List ℕ) (s : Controller
   pub n : ℕ
   pub going : Going g c lent s out at n
   pub passed : Passed c.active left n
-
-pub same_walking : {g : Virt} {c : Controller} {lent : List ℕ} {s s' : Controller} {out out' : List ℕ} {at at' left : ℕ}
-    → out' ≡ out → s' ≡ s → at' ≡ at → Walking g c lent s out at left → Walking g c lent s' out' at' left
-same_walking o e a walking = rw (o, e, a) walking
 
 -- the queue that the code reads: inside the list, whatever stands past its end
 abbrev read : List Queue → ℕ → Queue
@@ -281,12 +274,6 @@ module _ {c : Controller} (sound : Sound c) (g : Virt) where
 -- ---- the end
 module _ {c : Controller} (sound : Sound c) {g : Virt} (time : ℕ) (gain : g ≡ growth c.clock time)
     {lent : List ℕ} {s : Controller} {out : List ℕ} {at left : ℕ} (w : Walking g c lent s out at left) where
-  clock_stays : s.clock ≡ c.clock
-  clock_stays = ap (λ (k : Controller). k.clock) w.going.rest
-
-  pub clock_near : {places : ℕ} → TickPasses time places c → Near time s.clock × (g ≡ growth s.clock time)
-  clock_near passes = (rw clock_stays (passing_is_near sound passes), gain ∙ ap (λ (k : Clock). growth k time) (sym clock_stays))
-
   module _ (none : left ≡ 0) where
     all : Going g c lent s out at nodes_most
     all = idle_to sound g w.going w.going.upto (omega arith) (λ k a b. nothing_left w.passed none k a)
@@ -295,15 +282,12 @@ module _ {c : Controller} (sound : Sound c) {g : Virt} (time : ℕ) (gain : g �
     unfolding releases
     all_ids = rw gain
 
-    pub ends : {k : Clock} → k ≡ advanced time s.clock
-        → (◌≡◌ {A = Ticked} (record { answer = Released at; state = with_clock k s }) (ticked_by Accepted time c))
-        × (out ≡ lent_by Accepted time lent c)
-    unfolding ticked_by lent_by lent_after tick
+    pub ends : {k : Clock} → k ≡ advanced time c.clock → Released at (with_clock k s) out time lent c
+    unfolding lent_after tick
     ends {k} ek =
         let rows : s.rows ≡ table (row_of (growth c.clock time) c) = rw gain at (places_done (row_of g c) c.rows s.rows nodes_most sound.rows_all all.rows refl) in
-        let queues : s.queues ≡ table (queue_of (growth c.clock time) c) = rw gain at (places_done (queue_of g c) c.queues s.queues nodes_most sound.queues_all all.queues refl) in
-        let clock : k ≡ advanced time c.clock = ek ∙ ap (advanced time) clock_stays in (
-          ap (λ (x : Controller). record { answer = Released at; state = with_clock k x }) all.rest
-              ∙ rw (rows, queues, clock, all.front.front.0, all_ids),
+        let queues : s.queues ≡ table (queue_of (growth c.clock time) c) = rw gain at (places_done (queue_of g c) c.queues s.queues nodes_most sound.queues_all all.queues refl) in (
+          all.front.front.0 ∙ ap (λ (ids : List ℕ). length ids) all_ids,
+          ap (with_clock k) all.rest ∙ rw (rows, queues, ek),
           all.front.front.1 ∙ ap (λ (ids : List ℕ). lent_after ids lent) all_ids,
         )

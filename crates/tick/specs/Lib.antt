@@ -1,1 +1,2 @@
 pub mod Clocks
+pub mod Passing

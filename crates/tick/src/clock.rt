@@ -7,7 +7,7 @@ ghost use Rattle.rules.specs.Invariant.{SoundClock};
 ghost use Rattle.tick.specs.Clocks.{clock_checks, Near};
 
 use rules::budget::Clock;
-use rules::refusals::{Refusal, Verdict};
+use rules::refusals::Refusal;
 use rules::units::Virt;
 
 // Refusals 10, 11 and 12: the most that may pass in one tick, and the most that virtual time and E may reach.
@@ -17,57 +17,66 @@ const VTIME_MOST: u64 = 1152921504606846976;
 
 const SINCE_MOST: u64 = 8589934592;
 
-// "elapsed x vrate + remainder"
-fn hundredths(clock: Clock, time: u64) -> u64
-    requires { Near time clock }
-    ensures { result ≡ hundredths_of clock time }
-{
-    let elapsed = time - clock.time;
-    let passed = elapsed * clock.vrate as u64;
-    passed + clock.remainder as u64
+// A clock, and a time that it can grow to.
+#[derive(Clone, Copy)]
+pub struct Passing {
+    pub clock: Clock,
+    pub time: u64,
+    ghost near: { Near time clock },
 }
 
-// "virtual time grows by .."
-pub fn growth(clock: Clock, time: u64) -> Virt
-    requires { Near time clock }
-    ensures { result ≡ growth_of clock time }
-{
-    Virt(hundredths(clock, time) / 100)
-}
+impl Passing {
+    // "elapsed x vrate + remainder"
+    #[tactic(auto, unfolding(rules::specs::Tick::hundredths))]
+    fn hundredths(self) -> u64
+        ensures { result ≡ hundredths_of self.clock self.time }
+    {
+        let elapsed = self.time - self.clock.time;
+        elapsed * u64::from(self.clock.vrate) + u64::from(self.clock.remainder)
+    }
 
-// The clock at the new time, by a growth that is known; what is left over is worked out here.
-pub fn advanced(time: u64, mut clock: Clock, grown: Virt) -> Clock
-    requires { Near time clock × (grown ≡ growth_of clock time) }
-    ensures { result ≡ advanced_of time clock }
-{
-    let more = grown.0;
-    let vtime = Virt(clock.vtime.0 + more);
-    let since = Virt(clock.since.0 + more);
-    let left = hundredths(clock, time) % 100;
-    clock.time = time;
-    clock.vtime = vtime;
-    clock.since = since;
-    clock.remainder = left as u8;
-    clock
+    // "virtual time grows by .."
+    #[tactic(auto, unfolding(rules::specs::Tick::growth))]
+    pub fn growth(self) -> Virt
+        ensures { result ≡ growth_of self.clock self.time }
+    {
+        Virt(self.hundredths() / 100)
+    }
+
+    // The clock at the new time, by a growth that is known; what is left over is worked out here.
+    #[tactic(auto, using(crate::proofs::Clocks::vtime_fits, crate::proofs::Clocks::since_fits), unfolding(rules::specs::Tick::left_over, rules::specs::Tick::advanced))]
+    pub fn advanced(self, grown: Virt) -> Clock
+        requires { grown ≡ growth_of self.clock self.time }
+        ensures { result ≡ advanced_of self.time self.clock }
+    {
+        Clock {
+            time: self.time,
+            vtime: Virt(self.clock.vtime.0 + grown.0),
+            since: Virt(self.clock.since.0 + grown.0),
+            remainder: (self.hundredths() % 100) as u8,
+            ..self.clock
+        }
+    }
 }
 
 // Refusals 9 to 12. Times are compared by their difference: a time may be any u64.
-pub fn verdict(clock: Clock, time: u64) -> Verdict
+#[tactic(auto, using(crate::proofs::Clocks::vtime_fits))]
+pub fn verdict(clock: Clock, time: u64) -> Result<(), Refusal>
     requires { SoundClock clock }
     ensures { result ≡ first_of (clock_checks time clock) }
 {
     if time < clock.time {
-        return Verdict::Refused(Refusal::TimeBack);
+        return Err(Refusal::TimeBack);
     }
     if ELAPSED_MOST < time - clock.time {
-        return Verdict::Refused(Refusal::TimeFar);
+        return Err(Refusal::TimeFar);
     }
-    let grown = growth(clock, time);
+    let grown = Passing { clock, time }.growth();
     if VTIME_MOST < clock.vtime.0 + grown.0 {
-        return Verdict::Refused(Refusal::ClockFull);
+        return Err(Refusal::ClockFull);
     }
     if SINCE_MOST < clock.since.0 + grown.0 {
-        return Verdict::Refused(Refusal::PlanDue);
+        return Err(Refusal::PlanDue);
     }
-    Verdict::Accepted
+    Ok(())
 }

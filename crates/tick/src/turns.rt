@@ -1,54 +1,40 @@
 // The leaves' turns in an accepted tick: active leaves by rising number, each lent the rest of the release buffer behind
 // the ids already written. An inactive leaf's row and queue are not touched.
-ghost use Rattle.std.specs.Prelude.{◌≡◌, length};
-ghost use Rattle.rules.specs.Entries.{ticked_by, lent_by};
+ghost use Rattle.std.specs.Prelude.{length};
 ghost use Rattle.rules.specs.Invariant.{Sound, TickPasses};
-ghost use Rattle.rules.specs.declared.refusals.Verdict.TheVariants.{Accepted};
+ghost use Rattle.tick.specs.Passing.{Released};
 
-use crate::clock;
+use crate::clock::Passing;
 use leaf::tick::{released, settle};
-use rules::budget::{Controller, Ticked};
-use rules::refusals::Count;
-use sets::{lowest, remove};
-
-fn wide(x: u32) -> u64
-    ensures { result ≡ x }
-{
-    x as u64
-}
+use rules::budget::Controller;
+use sets::Members;
 
 // "Then for each active ..": its turn, with the buffer lent from `at` on. `at` is how many ids were written so far, and at
 // the end it is the answer.
-pub(crate) fn accepted(mut c: Controller, time: u64, out: &mut [u32]) -> Ticked
-    requires { Sound c × TickPasses time (length out.old) c }
-    ensures { (result ≡ ticked_by Accepted time c) × (out.new ≡ lent_by Accepted time out.old c) }
+// Kept (point 6): nothing here is on a heap: the ids stand at the front of a lent buffer, and their number beside it.
+pub(crate) fn accepted(c: &mut Controller, time: u64, out: &mut [u32]) -> usize
+    requires { Sound c.old × TickPasses time (length out.old) c.old }
+    ensures { Released result c.new out.new time out.old c.old }
 {
-    let gain = clock::growth(c.clock, time);
+    let passing = Passing {
+        clock: c.clock,
+        time,
+    };
+    let gain = passing.growth();
     let mut at: usize = 0;
-    let mut left = c.active;
-    while 0 < left {
-        let n = lowest(left);
-        let share = wide(c.shares[n]);
-        let row = c.rows[n];
-        let settled = settle(gain, share, row, c.queues[n].len);
-        let row = settled.row;
+    for n in Members(c.active) {
+        let share = u64::from(c.shares[n]);
+        let settled = settle(gain, share, c.rows[n], c.queues[n].len);
         if settled.due {
-            let queue = c.queues[n];
-            let rest = released(share, row, queue, &mut out[at..]);
-            let row = rest.row;
-            c.rows[n] = row;
-            c.queues[n].head = rest.head;
-            c.queues[n].len = rest.len;
-            at += rest.count;
+            let left = released(share, settled.row, &c.queues[n], &mut out[at..]);
+            c.rows[n] = left.row;
+            c.queues[n].head = left.head;
+            c.queues[n].len = left.len;
+            at += left.count;
         } else {
-            c.rows[n] = row;
+            c.rows[n] = settled.row;
         }
-        left = remove(left, n);
     }
-    let clock = clock::advanced(time, c.clock, gain);
-    c.clock = clock;
-    Ticked {
-        answer: Count::Released(at),
-        state: c,
-    }
+    c.clock = passing.advanced(gain);
+    at
 }

@@ -1,15 +1,18 @@
--- Laws of bytes laid into a buffer: its length stays, one store lays one byte, and what is laid next to it goes on from there.
+-- Laws of bytes laid into a buffer: its length stays, one store lays one byte, std's bytes of a number are those of the rules, and what is laid next to it goes on from there.
 -- Assumes nothing.
-use mathlib.Core.Path.{◌≡◌, sym, ◌∙◌}
-use mathlib.Core.List.{List, [], ◌∷◌, ◌++◌, append_assoc}
-use Prim.Native.Nat.{ℕ, ◌+◌, ◌/◌, ◌%◌, ◌^◌, ◌≤◌, ◌<◌}
-use native.Mathlib.Nat.{add-zero, add_assoc, pow-suc, div-div-eq-div-mul}
+use mathlib.Core.Path.{◌≡◌, refl, sym, ◌∙◌}
+use mathlib.Core.List.{List, [], ◌∷◌, ◌++◌, append-nil, append_assoc}
+use Prim.Native.Nat.{ℕ, zero, suc, ◌+◌, ◌-◌, ◌/◌, ◌%◌, ◌^◌, ◌≤◌, ◌<◌}
+use native.Mathlib.Nat.{add-zero, zero-add, add_assoc, pow-zero, pow-suc, div-one, div-div-eq-div-mul}
 use native.Mathlib.Numerals.{add-one}
 use native.Mathlib.Omega.{arith}
 use lib.ListN.{length, take, drop, set, take-append-drop, length-append, length-take, length-drop}
-use lib.Seq.{drop-append-add, drop-drop, set_split, take_at}
+use lib.Seq.{drop-length, drop-append-add, drop-drop, set_split, take_at}
 use Rattle.rules.specs.Trace.{bytes_of, total, body_of}
-use Rattle.rules.proofs.Laws.Trace.{bytes_snoc, length_bytes}
+use Rattle.std.specs.Int.{Width, byte_len, byte_at, bytes_low_first, to_le_bytes}
+use Rattle.std.proofs.lemmas.List.{take_all}
+use Rattle.rules.specs.Buffers.{rest_of, put_back}
+use Rattle.rules.proofs.Laws.Trace.{length_bytes}
 use Rattle.trace.specs.Laid.{laid}
 
 pub laid_none : (at : ℕ) (l : List ℕ) → laid [] at l ≡ l
@@ -36,19 +39,32 @@ laid_on xs ys at l h =
     (rw so_far at (drop-append-add before after (length ys))) ∙ drop-drop (length ys) (at + length xs) l in
     rw (← append_assoc (take at l) xs after, kept, past, length-append, ← add_assoc) (simp append_assoc)
 
--- one pass of `put`: the number's next byte
-pub laid_byte : (n i at : ℕ) (l : List ℕ) → at + i < length l
-    → set (laid (bytes_of i n) at l) (at + i) ((n / 256 ^ i) % 256) ≡ laid (bytes_of (i + 1) n) at l
-laid_byte n i at l h =
-    let byte : ℕ = (n / 256 ^ i) % 256 in
-    let so_far : length (bytes_of i n) ≡ i = length_bytes i n in
-    let long : length (laid (bytes_of i n) at l) ≡ length l = laid_length (bytes_of i n) at l (omega arith) in
-    laid_one byte (at + i) (laid (bytes_of i n) at l) (omega arith)
-    ∙ (rw so_far at (laid_on (bytes_of i n) (byte ∷ []) at l (omega arith)))
-    ∙ rw (add-one, bytes_snoc)
+-- what is laid at the beginning of a part, once the part is back in its place
+pub laid_behind : (at : ℕ) (bs s : List ℕ) {ys : List ℕ} → at + length bs ≤ length s → ys ≡ laid bs 0 (rest_of s at) → put_back s at ys ≡ laid bs at s
+unfolding laid
+laid_behind at bs s h d =
+    let whole : rest_of s at ≡ drop at s = take_all (length s - at) (drop at s) (simp length-drop (omega arith)) in
+    let end : at + (length s - at) ≡ length s = omega arith in
+    let none : drop (length s - at) (drop at s) ≡ [] = drop-drop (length s - at) at s ∙ rw end (drop-length s) in
+    let behind : drop (length bs) (drop at s) ≡ drop (at + length bs) s = drop-drop (length bs) at s in
+    rw (none, append-nil, d, whole, zero-add, behind)
 
-pub next_quotient : (n i : ℕ) → n / 256 ^ i / 256 ≡ n / 256 ^ (i + 1)
-next_quotient n i = rw (add-one, pow-suc, div-div-eq-div-mul)
+-- ---- the bytes that std makes of a number
+byte_at_is : (i n : ℕ) → byte_at i n ≡ (n / 256 ^ i) % 256
+byte_at_is zero n = rw (pow-zero, div-one)
+byte_at_is (suc i) n = refl
+
+low_bytes : (i k n : ℕ) → bytes_low_first i k n ≡ bytes_of k (n / 256 ^ i)
+unfolding bytes_of
+low_bytes i zero n = refl
+low_bytes i (suc k) n = rw (byte_at_is i n, low_bytes (suc i) k n, pow-suc, div-div-eq-div-mul)
+
+le_bytes : (w : Width) (n : ℕ) → to_le_bytes w n ≡ bytes_of (byte_len w) n
+le_bytes w n = low_bytes 0 (byte_len w) n ∙ rw (pow-zero, div-one)
+
+-- one call of `put`
+pub put_le : (w : Width) (n at : ℕ) (l : List ℕ) {bs l₁ : List ℕ} → bs ≡ to_le_bytes w n → l₁ ≡ laid bs at l → l₁ ≡ laid (bytes_of (byte_len w) n) at l
+put_le w n at l e d = rw (e, le_bytes w n) at d
 
 -- ---- the numbers of a body, put one behind the other
 abbrev put_all : List ℕ → List ℕ → ℕ → List ℕ → List ℕ

@@ -1,3 +1,5 @@
 pub mod Fields
+pub mod ExtentLaws
+pub mod KindLaws
 pub mod Laid
 pub mod Written

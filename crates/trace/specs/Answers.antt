@@ -4,8 +4,7 @@ use Rattle.std.specs.Prelude.{◌≡◌, List, [], ◌∷◌, ℕ, length}
 use Rattle.rules.specs.Trace.{record_bytes, Fits, writing, written_to}
 use Rattle.rules.specs.Refusals.{read_checks, values_at, read_paper, write_checks, write_paper, paper_of}
 use Rattle.rules.specs.declared.trace.Record.{Record}
-use Rattle.rules.specs.declared.trace.Read.{Read}
-use Rattle.rules.specs.declared.trace.Write.{Write}
+use Rattle.rules.specs.Results.{Read, Write}
 
 abbrev pub ReadOnPaper : List ℕ → ℕ → Read → Type 0
 ReadOnPaper trace at r = read_paper r ≡ paper_of (read_checks trace at) (values_at trace at)

@@ -8,6 +8,6 @@ use Rattle.rules.specs.declared.trace.Record.{Record}
 unfoldable pub laid : List ℕ → ℕ → List ℕ → List ℕ
 laid bs at l = take at l ++ (bs ++ drop (at + length bs) l)
 
--- the body of a record of this kind, behind the place of the kind
+-- the body of a record of this kind, in the room behind the kind
 abbrev pub body_laid : ℕ → Record → List ℕ → List ℕ
-body_laid kind r l = laid (body_of (layout kind) (fields_of r)) 1 l
+body_laid kind r l = laid (body_of (layout kind) (fields_of r)) 0 l

@@ -1,113 +1,101 @@
 // The encoder: a record's bytes in front of a lent buffer, by the layouts of the rules.
-ghost use Rattle.std.specs.Prelude.{◌≡◌, ◌+◌, ◌≤◌, length};
+ghost use Rattle.std.specs.Prelude.{◌≡◌, ◌+◌, ◌≤◌, ◌<◌, length};
 ghost use Rattle.rules.specs.Trace.{bytes_of, layout, total, kind_of};
 ghost use Rattle.trace.specs.Answers.{Writes, WriteOnPaper};
 ghost use Rattle.trace.specs.Laid.{laid, body_laid};
 
+use crate::kind::Kind;
 use crate::layout;
 use rules::cost::{Bio, Rates};
 use rules::refusals::Refusal;
-use rules::trace::{Record, Write};
+use rules::trace::Record;
 
-// Where a record's fields stand behind its kind. Two kinds have a weight: the names of its places say whose it is.
-const BODY: usize = layout::BODY;
-
-const NODE_WEIGHT: usize = layout::BODY + layout::NODE_WEIGHT;
-
-const RSEQIOPS: usize = layout::BODY + layout::MODEL_RSEQIOPS;
-
-const RRANDIOPS: usize = layout::BODY + layout::MODEL_RRANDIOPS;
-
-const WBPS: usize = layout::BODY + layout::MODEL_WBPS;
-
-const WSEQIOPS: usize = layout::BODY + layout::MODEL_WSEQIOPS;
-
-const WRANDIOPS: usize = layout::BODY + layout::MODEL_WRANDIOPS;
-
-const FLAGS: usize = layout::BODY + layout::BIO_FLAGS;
-
-const ID: usize = layout::BODY + layout::BIO_ID;
-
-const SECTOR: usize = layout::BODY + layout::BIO_SECTOR;
-
-const BYTES: usize = layout::BODY + layout::BIO_BYTES;
-
-const WEIGHT_WEIGHT: usize = layout::BODY + layout::WEIGHT_WEIGHT;
-
-// "numbers little-endian": the least byte first.
-fn put(lent: &mut [u8], at: usize, width: usize, number: u64)
-    requires { at + width ≤ length lent.old }
-    ensures { lent.new ≡ laid (bytes_of width number) at lent.old }
+// The bytes of a number at its place.
+fn put(body: &mut [u8], at: usize, bytes: &[u8])
+    requires { at + length bytes.now ≤ length body.old }
+    ensures { body.new ≡ laid bytes.now at body.old }
 {
-    let mut left = number;
-    let mut i = 0;
-    while i < width {
-        lent[at + i] = (left % 256) as u8;
-        left = left / 256;
-        i += 1;
-    }
+    body[at..at + bytes.len()].copy_from_slice(bytes);
 }
 
-// "2 model (six 8-byte .."
-fn put_rates(rates: Rates, lent: &mut [u8])
-    requires { 1 + total (layout 2) ≤ length lent.old }
-    ensures { lent.new ≡ body_laid 2 (Record.Model rates) lent.old }
+// A byte is a number of one byte.
+fn put_byte(body: &mut [u8], at: usize, byte: u8)
+    requires { at < length body.old }
+    ensures { body.new ≡ laid (bytes_of 1 byte) at body.old }
 {
-    put(lent, BODY, 8, rates.rbps);
-    put(lent, RSEQIOPS, 8, rates.rseqiops);
-    put(lent, RRANDIOPS, 8, rates.rrandiops);
-    put(lent, WBPS, 8, rates.wbps);
-    put(lent, WSEQIOPS, 8, rates.wseqiops);
-    put(lent, WRANDIOPS, 8, rates.wrandiops);
+    put(body, at, &[byte]);
+}
+
+// "2 model (six 8-byte .."; "numbers little-endian"
+#[tactic(auto, unfolding(rules::specs::Trace::layout))]
+fn put_rates(rates: Rates, body: &mut [u8])
+    requires { total (layout 2) ≤ length body.old }
+    ensures { body.new ≡ body_laid 2 (Record.Model rates) body.old }
+{
+    put(body, 0, &rates.rbps.to_le_bytes());
+    put(body, layout::MODEL_RSEQIOPS, &rates.rseqiops.to_le_bytes());
+    put(
+        body,
+        layout::MODEL_RRANDIOPS,
+        &rates.rrandiops.to_le_bytes(),
+    );
+    put(body, layout::MODEL_WBPS, &rates.wbps.to_le_bytes());
+    put(body, layout::MODEL_WSEQIOPS, &rates.wseqiops.to_le_bytes());
+    put(
+        body,
+        layout::MODEL_WRANDIOPS,
+        &rates.wrandiops.to_le_bytes(),
+    );
 }
 
 // "4 bio (node 1 .."
-fn put_bio(bio: Bio, lent: &mut [u8])
-    requires { 1 + total (layout 4) ≤ length lent.old }
-    ensures { lent.new ≡ body_laid 4 (Record.Bio bio) lent.old }
+#[tactic(auto, unfolding(rules::specs::Trace::layout))]
+fn put_bio(bio: Bio, body: &mut [u8])
+    requires { total (layout 4) ≤ length body.old }
+    ensures { body.new ≡ body_laid 4 (Record.Bio bio) body.old }
 {
-    put(lent, BODY, 1, bio.node as u64);
-    put(lent, FLAGS, 1, bio.flags as u64);
-    put(lent, ID, 4, bio.id as u64);
-    put(lent, SECTOR, 8, bio.sector);
-    put(lent, BYTES, 4, bio.bytes as u64);
+    put_byte(body, 0, bio.node);
+    put_byte(body, layout::BIO_FLAGS, bio.flags);
+    put(body, layout::BIO_ID, &bio.id.to_le_bytes());
+    put(body, layout::BIO_SECTOR, &bio.sector.to_le_bytes());
+    put(body, layout::BIO_BYTES, &bio.bytes.to_le_bytes());
 }
 
 // "then a body whose .."
-fn put_body(r: Record, lent: &mut [u8])
-    requires { 1 + total (layout (kind_of r)) ≤ length lent.old }
-    ensures { lent.new ≡ body_laid (kind_of r) r lent.old }
+#[tactic(auto, unfolding(rules::specs::Trace::layout))]
+fn put_body(r: Record, body: &mut [u8])
+    requires { total (layout (kind_of r)) ≤ length body.old }
+    ensures { body.new ≡ body_laid (kind_of r) r body.old }
 {
     match r {
         Record::Node(parent, weight) => {
-            put(lent, BODY, 1, parent as u64);
-            put(lent, NODE_WEIGHT, 2, weight as u64);
+            put_byte(body, 0, parent);
+            put(body, layout::NODE_WEIGHT, &weight.to_le_bytes());
         }
-        Record::Model(rates) => put_rates(rates, lent),
-        Record::Start(time) => put(lent, BODY, 8, time),
-        Record::Bio(bio) => put_bio(bio, lent),
-        Record::Tick(time) => put(lent, BODY, 8, time),
+        Record::Model(rates) => put_rates(rates, body),
+        Record::Start(time) | Record::Tick(time) => put(body, 0, &time.to_le_bytes()),
+        Record::Bio(bio) => put_bio(bio, body),
         Record::Plan => {}
-        Record::Vrate(vrate) => put(lent, BODY, 2, vrate as u64),
+        Record::Vrate(vrate) => put(body, 0, &vrate.to_le_bytes()),
         Record::Weight(node, weight) => {
-            put(lent, BODY, 1, node as u64);
-            put(lent, WEIGHT_WEIGHT, 2, weight as u64);
+            put_byte(body, 0, node);
+            put(body, layout::WEIGHT_WEIGHT, &weight.to_le_bytes());
         }
     }
 }
 
 // "The writer writes any record whose numbers fit ..": that is every record, by the types of its fields. So what is
 // written reads back.
-pub fn write_to(r: Record, lent: &mut [u8]) -> Write
+pub fn write_to(r: Record, lent: &mut [u8]) -> Result<usize, Refusal>
     ensures writes { Writes r result lent.old lent.new }
     ensures number { WriteOnPaper r lent.old result }
 {
-    let kind = layout::kind_of(r);
-    let len = layout::body_len(kind) + 1;
+    let kind = Kind::of(r);
+    let len = layout::BODY + kind.body_len();
     if lent.len() < len {
-        return Write::Refused(Refusal::ShortBuffer);
+        return Err(Refusal::ShortBuffer);
     }
-    lent[0] = kind;
-    put_body(r, lent);
-    Write::Wrote(len)
+    lent[0] = u8::from(kind);
+    put_body(r, &mut lent[layout::BODY..]);
+    Ok(len)
 }

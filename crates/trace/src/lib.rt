@@ -5,5 +5,6 @@
 
 pub mod decoder;
 pub mod encoder;
-pub mod layout;
+pub mod kind;
+mod layout;
 pub mod reader;

@@ -36,13 +36,13 @@ module _ (ps ws : List ℕ) (n : ℕ) (pos : 0 < n) (up : Climbs ps n) {q : ℕ}
   after = tree_of (n + 1) ps ws
 
   last_before : last before ≡ n - 1
-  last_before = last_at n ps ws
+  last_before = last_at before
 
   last_after : last after ≡ n
-  last_after = let i : n + 1 - 1 ≡ n = omega arith in last_at (n + 1) ps ws ∙ i
+  last_after = let i : n + 1 - 1 ≡ n = omega arith in last_at after ∙ i
 
   same_parent : (k : ℕ) → 0 < k → parent before k ≡ parent after k
-  same_parent k p = parent_at n ps ws k p ∙ sym (parent_at (n + 1) ps ws k p)
+  same_parent k p = parent_at before k p ∙ sym (parent_at after k p)
 
   still_leaf : (k : ℕ) → is_leaf after k ≡ true → ((is_leaf before k || eqb k n) && not (eqb k q)) ≡ true
   still_leaf k i =
@@ -56,7 +56,7 @@ module _ (ps ws : List ℕ) (n : ℕ) (pos : 0 < n) (up : Climbs ps n) {q : ℕ}
       (childless_leaf before k p (rw last_before (omega arith))
       (λ j a b f. leaf_childless after k i j a (omega (arith, last_before, last_after)) (sym (same_parent j a) ∙ f))))
       (eq-or-lt_of_le l))
-      (rw (ne_eqb k q (λ f. leaf_childless after k i n pos (omega (arith, last_after)) (parent_at (n + 1) ps ws n pos ∙ sym e ∙ sym f))))
+      (rw (ne_eqb k q (λ f. leaf_childless after k i n pos (omega (arith, last_after)) (parent_at after n pos ∙ sym e ∙ sym f))))
 
   leaf_still : (k : ℕ) → ((is_leaf before k || eqb k n) && not (eqb k q)) ≡ true → is_leaf after k ≡ true
   leaf_still k i =
@@ -66,13 +66,13 @@ module _ (ps ws : List ℕ) (n : ℕ) (pos : 0 < n) (up : Climbs ps n) {q : ℕ}
       childless_leaf after k (leaf_pos before k b) (omega (arith, leaf_last before k b, last_before, last_after))
       (λ j p l f.
       ⊎_elim
-      (λ (z : j ≡ n). other (sym (rw z at f) ∙ parent_at (n + 1) ps ws n pos ∙ sym e))
+      (λ (z : j ≡ n). other (sym (rw z at f) ∙ parent_at after n pos ∙ sym e))
       (λ (m : j < n). leaf_childless before k b j p (omega (arith, last_before)) (same_parent j p ∙ f))
       (eq-or-lt_of_le (rw last_after at l))))
       (λ (b : eqb k n ≡ true).
       let z : k ≡ n = eqb-true k n b in
       childless_leaf after k (omega arith) (omega (arith, last_after))
-      (λ j p l f. let u : get_or ps j 0 < j = up j p (omega (arith, last_after)) in omega (arith, last_after, parent_at (n + 1) ps ws j p)))
+      (λ j p l f. let u : get_or ps j 0 < j = up j p (omega (arith, last_after)) in omega (arith, last_after, parent_at after j p)))
       (or_cases (is_leaf before k) (eqb k n) (and_left (is_leaf before k || eqb k n) (not (eqb k q)) i))
 
   leaf_cut : (k : ℕ) → is_leaf after k ≡ ((is_leaf before k || eqb k n) && not (eqb k q))
@@ -95,6 +95,6 @@ pub leaves_whole : (ps ws : List ℕ) (count n : ℕ) → 0 < n → count ≤ n 
 leaves_whole ps ws count n p l m {found} f =
     ⊎_elim
     (λ (z : count ≡ 0).
-    f ∙ sym (no_leaves (tree_of n ps ws) (omega (arith, last_at n ps ws))) ∙ no_leaves (tree_of count ps ws) (omega (arith, last_at count ps ws)))
+    f ∙ sym (no_leaves (tree_of n ps ws) (omega (arith, last_at (tree_of n ps ws)))) ∙ no_leaves (tree_of count ps ws) (omega (arith, last_at (tree_of count ps ws))))
     (λ (q : 0 < count). let e : n ≡ count = omega arith in rw (← e) f)
     (eq-zero-or-pos count)

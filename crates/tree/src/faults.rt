@@ -1,10 +1,8 @@
 // The rules that a tree must keep, node by node: the first one that is broken is the tree's fault.
 ghost use Rattle.std.specs.Prelude.{◌≡◌, ◌-◌, ◌<◌, ◌≤◌};
-ghost use Rattle.rules.specs.Tree.{last, weight_in_range, tree_fault, newest_fault};
-ghost use Rattle.rules.specs.Refusals.{is_fault};
-ghost use Rattle.tree.specs.View.{tree_of, Climbs, LevelBy, FaultBy, first_fault};
+ghost use Rattle.rules.specs.Tree.{last, level, weight_in_range, node_fault, tree_fault, newest_fault};
+ghost use Rattle.tree.specs.View.{Climbs, first_fault};
 
-use crate::wide;
 use rules::tree::{Fault, Tree};
 
 const NODES_LEAST: usize = 2;
@@ -17,93 +15,71 @@ const WEIGHT_MOST: u16 = 10000;
 
 const LEVEL_MOST: usize = 8;
 
+// Kept (point 5): that nodes climb is known up to the node at hand, which is another at each call, so that no type of trees
+// holds it.
 // How many levels a node lies below the root, by a call on its parent.
-fn level_of(parents: &[u8; 64], node: usize) -> usize
-    requires { Climbs parents.now node × (node < 64) }
-    ensures { LevelBy parents.now node result × (result ≤ node) }
+fn level_of(tree: &Tree, node: usize) -> usize
+    requires { Climbs tree.now.parents node × (node < 64) }
+    ensures { (result ≡ level tree.now node) × (result ≤ node) }
 {
     if node == 0 {
         return 0;
     }
-    let parent = wide(parents[node]);
-    level_of(parents, parent) + 1
+    level_of(tree, usize::from(tree.parents[node])) + 1
 }
 
 pub(crate) fn weight_in_range(weight: u16) -> bool
     ensures { result ≡ weight_in_range weight }
 {
-    if weight < WEIGHT_LEAST {
-        return false;
-    }
-    weight <= WEIGHT_MOST
+    (WEIGHT_LEAST..=WEIGHT_MOST).contains(&weight)
 }
 
 // The parent is judged first: a node has a level only where its parent's number is smaller.
-fn node_fault<'a>(parents: &'a [u8; 64], weights: &'a [u16; 64], node: usize) -> Fault
-    requires { Climbs parents.now (node - 1) × (0 < node) × (node < 64) }
-    ensures { FaultBy parents.now weights.now node result }
+fn node_fault(tree: &Tree, node: usize) -> Result<(), Fault>
+    requires { Climbs tree.now.parents (node - 1) × (0 < node) × (node < 64) }
+    ensures { result ≡ node_fault tree.now node }
 {
-    if node <= wide(parents[node]) {
-        return Fault::Parent(node);
+    if node <= usize::from(tree.parents[node]) {
+        return Err(Fault::Parent(node));
     }
-    let weight = weights[node];
-    if !weight_in_range(weight) {
-        return Fault::Weight(node);
+    if !weight_in_range(tree.weights[node]) {
+        return Err(Fault::Weight(node));
     }
-    if LEVEL_MOST < level_of(parents, node) {
-        return Fault::Level(node);
+    if LEVEL_MOST < level_of(tree, node) {
+        return Err(Fault::Level(node));
     }
-    Fault::Sound
-}
-
-// Is anything wrong?
-pub fn broken(found: Fault) -> bool
-    ensures { result ≡ is_fault found }
-{
-    match found {
-        Fault::Sound => false,
-        Fault::Count => true,
-        Fault::Parent(_) => true,
-        Fault::Weight(_) => true,
-        Fault::Level(_) => true,
-    }
+    Ok(())
 }
 
 // The first fault of the nodes, each of which is judged once those before it are found sound.
-fn first_fault<'a>(parents: &'a [u8; 64], weights: &'a [u16; 64], count: usize) -> Fault
-    requires { (0 < count) × (count ≤ 64) }
-    ensures { result ≡ first_fault (tree_of count parents.now weights.now) }
+fn first_fault(tree: &Tree) -> Result<(), Fault>
+    requires { (0 < tree.now.count) × (tree.now.count ≤ 64) }
+    ensures { result ≡ first_fault tree.now }
 {
-    let mut node: usize = 1;
-    while node < count {
-        let found = node_fault(parents, weights, node);
-        if broken(found) {
-            return found;
-        }
-        node += 1;
+    for node in 1..tree.count {
+        node_fault(tree, node)?;
     }
-    Fault::Sound
+    Ok(())
 }
 
 // What is wrong with a tree: any count, parents and weights may be handed in.
-pub(crate) fn fault(tree: Tree) -> Fault
-    ensures { result ≡ tree_fault tree }
+pub(crate) fn fault(tree: &Tree) -> Result<(), Fault>
+    ensures { result ≡ tree_fault tree.now }
 {
-    let count = tree.count;
-    if count < NODES_LEAST {
-        return Fault::Count;
+    // Kept (point 2): each limit of the count is a test of its own, by which the proof goes.
+    if tree.count < NODES_LEAST {
+        return Err(Fault::Count);
     }
-    if NODES_MOST < count {
-        return Fault::Count;
+    if NODES_MOST < tree.count {
+        return Err(Fault::Count);
     }
-    first_fault(&tree.parents, &tree.weights, count)
+    first_fault(tree)
 }
 
 // The fault of the newest node, as nodes come one by one: those before it are known to climb.
-pub fn newest(tree: Tree) -> Fault
+pub fn newest(tree: Tree) -> Result<(), Fault>
     requires { (1 < tree.count) × (tree.count ≤ 64) × Climbs tree.parents (last tree - 1) }
     ensures { result ≡ newest_fault tree }
 {
-    let node = tree.count - 1;
-    node_fault(&tree.parents, &tree.weights, node)
+    node_fault(&tree, tree.count - 1)
 }

@@ -1,47 +1,33 @@
-// Sets of nodes of a tree: its leaves, and the nodes that are active with some of them. Weights play no part in them, so
-// what is found of lent parents holds of every tree with these parents.
-ghost use Rattle.std.specs.Prelude.{◌≡◌, ◌-◌, ◌≤◌};
-ghost use Rattle.rules.specs.Tree.{leaves_of};
-ghost use Rattle.rules.specs.Invariant.{SoundTree};
-ghost use Rattle.tree.specs.View.{Climbs, Rooted, LeavesBy, ActiveNodes};
+// Sets of nodes of a tree: its leaves, and the nodes that are active with some of them.
+ghost use Rattle.std.specs.Prelude.{◌≡◌};
+ghost use Rattle.rules.specs.Words.{set_of};
+ghost use Rattle.rules.specs.Tree.{leaves_of, is_active};
+ghost use Rattle.rules.specs.Invariant.{SoundTree, Within};
 
-use crate::wide;
 use rules::tree::Tree;
 use sets::{has, insert, remove};
 
 // Each node is a leaf until a later one names it as its parent.
-pub(crate) fn leaves_in(parents: &[u8; 64], count: usize) -> u64
-    requires { Climbs parents.now (count - 1) × (count ≤ 64) }
-    ensures { LeavesBy count parents.now result }
+pub fn leaves(tree: &Tree) -> u64
+    requires { SoundTree tree.now }
+    ensures { result ≡ leaves_of tree.now }
 {
     let mut found: u64 = 0;
-    let mut node: usize = 1;
-    while node < count {
-        found = remove(insert(found, node), wide(parents[node]));
-        node += 1;
+    for node in 1..tree.count {
+        found = remove(insert(found, node), usize::from(tree.parents[node]));
     }
     found
 }
 
-pub fn leaves(tree: Tree) -> u64
-    requires { SoundTree tree }
-    ensures { result ≡ leaves_of tree }
-{
-    let count = tree.count;
-    leaves_in(&tree.parents, count)
-}
-
 // A parent's number is smaller, so one pass from the last node down finds every node that has an active leaf below it.
-pub(crate) fn active_nodes(parents: &[u8; 64], count: usize, active: u64) -> u64
-    requires { Rooted count parents.now active }
-    ensures { ActiveNodes count parents.now active result }
+pub(crate) fn active_nodes(tree: &Tree, active: u64) -> u64
+    requires { SoundTree tree.now × Within tree.now active }
+    ensures { result ≡ set_of (is_active tree.now active) }
 {
     let mut nodes = active;
-    let mut node = count;
-    while 1 < node {
-        node -= 1;
+    for node in (1..tree.count).rev() {
         if has(nodes, node) {
-            nodes = insert(nodes, wide(parents[node]));
+            nodes = insert(nodes, usize::from(tree.parents[node]));
         }
     }
     nodes

@@ -14,7 +14,7 @@ pub fn ceil_div(a: u64, b: u64) -> u64
     requires { (a + b ≤ 2 ^ 64) × (0 < b) }
     ensures { result ≡ ceil_of a b }
 {
-    (a + (b - 1)) / b
+    a.div_ceil(b)
 }
 
 // "Relative cost = CEIL(cost .."
@@ -26,6 +26,8 @@ pub fn rel_cost(cost: Abs, share: u64) -> Virt
     Virt(relative)
 }
 
+// Kept (point 5): that a budget times its share has room is asked of each call: the state has budgets and shares in two arrays,
+// of which `Sound.worth_at_most` says it.
 // What a budget can repay at a share: "FLOOR(budget x share / WHOLE)".
 pub fn repayable(budget: Virt, share: u64) -> Abs
     requires { budget.0 * share < 2 ^ 64 }

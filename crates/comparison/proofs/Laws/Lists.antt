@@ -9,14 +9,16 @@ use Rattle.rules.specs.Chunks.{is_cut}
 use Rattle.rules.proofs.Laws.Bools.{never, same_test, and_left, and_right, and_both}
 use Rattle.rules.proofs.Laws.Pieces.{same_with_more}
 use Rattle.rules.specs.declared.trace.Record.{Record}
-use Rattle.rules.specs.declared.trace.Read.TheVariants.{Found}
-use Rattle.comparison.specs.Compare.{same_bytes, between}
+use Rattle.trace.specs.Extents.{extent_of}
+use Rattle.trace.specs.declared.decoder.Whole.{Whole}
+use Rattle.comparison.specs.Compare.{past_of, same_bytes, between}
+use Rattle.comparison.specs.Theorems.{ends_first, ends_second, ends_neither}
 use Rattle.comparison.proofs.Laws.Steps.{WholeAt}
 use Rattle.comparison.proofs.Laws.Records.{Records, joined, ends_in, likeness_in}
 use Rattle.comparison.proofs.Laws.Records.Records.{none_left, one_more}
 use Rattle.comparison.specs.declared.Ends.{Ends}
-use Rattle.comparison.specs.declared.Ends.TheVariants.{First as EndsFirst, Second as EndsSecond, Neither}
 use Rattle.comparison.specs.declared.Likeness.TheVariants.{Equal, Prefix}
+use Rattle.rules.specs.Results.{Read, found}
 
 -- ---- bytes that are the same
 pub same_bytes_are_equal : (a b : List ℕ) → same_bytes a b ≡ true → a ≡ b
@@ -71,20 +73,20 @@ prefix_records alike (r ∷ rs) (s ∷ ss) e =
     (and_left alike _ on.0, rw one (longer_more s on.1))
 
 pub second_is_longer : (n : ℕ) (rs : List (List ℕ)) (t : List ℕ) (ts : List (List ℕ))
-    → (likeness_in true rs (rs ++ (t ∷ ts)) ≡ Prefix) × (ends_in n rs (rs ++ (t ∷ ts)) ≡ EndsFirst (n + length rs))
+    → (likeness_in true rs (rs ++ (t ∷ ts)) ≡ Prefix) × (ends_in n rs (rs ++ (t ∷ ts)) ≡ ends_first (n + length rs))
 unfolding likeness_in ends_in
-second_is_longer n [] t ts = (refl, ap EndsFirst (omega arith))
+second_is_longer n [] t ts = (refl, ap ends_first (omega arith))
 second_is_longer n (r ∷ rs) t ts =
     let on = second_is_longer (n + 1) rs t ts in
-    (rw (equal_bytes_are_the_same r) on.0, on.1 ∙ ap EndsFirst (omega arith))
+    (rw (equal_bytes_are_the_same r) on.0, on.1 ∙ ap ends_first (omega arith))
 
 pub first_is_longer : (n : ℕ) (ss : List (List ℕ)) (t : List ℕ) (ts : List (List ℕ))
-    → (likeness_in true (ss ++ (t ∷ ts)) ss ≡ Prefix) × (ends_in n (ss ++ (t ∷ ts)) ss ≡ EndsSecond (n + length ss))
+    → (likeness_in true (ss ++ (t ∷ ts)) ss ≡ Prefix) × (ends_in n (ss ++ (t ∷ ts)) ss ≡ ends_second (n + length ss))
 unfolding likeness_in ends_in
-first_is_longer n [] t ts = (refl, ap EndsSecond (omega arith))
+first_is_longer n [] t ts = (refl, ap ends_second (omega arith))
 first_is_longer n (s ∷ ss) t ts =
     let on = first_is_longer (n + 1) ss t ts in
-    (ap (λ (b : Bool). likeness_in b (ss ++ (t ∷ ts)) ss) (equal_bytes_are_the_same s) ∙ on.0, on.1 ∙ ap EndsSecond (omega arith))
+    (ap (λ (b : Bool). likeness_in b (ss ++ (t ∷ ts)) ss) (equal_bytes_are_the_same s) ∙ on.0, on.1 ∙ ap ends_second (omega arith))
 
 pub joined_append : (rs ts : List (List ℕ)) → joined (rs ++ ts) ≡ joined rs ++ joined ts
 joined_append [] ts = refl
@@ -96,16 +98,16 @@ pub record More (first second : List ℕ) (rs ss : List (List ℕ)) : Type 0 whe
   pub both : ss ≡ rs ++ more
   pub behind : Records second (length first) more
 
-still_whole : (first later : List ℕ) {at kind next k n : ℕ} → WholeAt first at kind next → WholeAt (first ++ later) at k n
-    → (n ≡ next) × (between at n (first ++ later) ≡ between at next first)
+still_whole : (first later : List ℕ) {at : ℕ} {v w : Whole} → WholeAt first at v → WholeAt (first ++ later) at w
+    → (w.next ≡ v.next) × (between at w.next (first ++ later) ≡ between at v.next first)
 unfolding is_cut
-still_whole first later {at} {kind} {next} {k} {n} v w =
+still_whole first later {at} {v = a} {w = b} v w =
     let there : read_at (first ++ later) at ≡ read_at first at = same_with_more first later at (rw v.reads) in
-    let one : n ≡ next = next_of (sym w.reads ∙ there ∙ v.reads) in
-    (one, rw (one, drop-append-le at first later (omega (arith, v.onward, v.within)), take-append-le (next - at) (drop at first) later (omega (arith, length-drop at first, v.within))))
+    let one : b.next ≡ a.next = next_of (sym w.reads ∙ there ∙ v.reads) in
+    (one, rw (one, drop-append-le at first later (omega (arith, v.onward, v.within)), take-append-le (a.next - at) (drop at first) later (omega (arith, length-drop at first, v.within))))
   where
-    next_of : {r s : Record} → Found r n ≡ Found s next → n ≡ next
-    next_of e = cc
+    next_of : {r s : Record} {m n : ℕ} → found r m ≡ found s n → m ≡ n
+    next_of e = ap (λ (read : Read). past_of (extent_of read) 0) e
 
 both_parts : {r s : List ℕ} {rs ss : List (List ℕ)} → r ≡ s → rs ≡ ss → ◌≡◌ {A = List (List ℕ)} (r ∷ rs) (s ∷ ss)
 both_parts e f = rw (e, f)
@@ -120,7 +122,7 @@ goes_likewise first later (one_more {rs = rs} v rest) (one_more {rs = ss} w othe
 
 -- ---- the count of the shorter, and whose it is
 abbrev pub ends_by_count : ℕ → ℕ → Ends
-ends_by_count m n = cond (ltb m n) (EndsFirst m) (cond (ltb n m) (EndsSecond n) (Neither m))
+ends_by_count m n = cond (ltb m n) (ends_first m) (cond (ltb n m) (ends_second n) (ends_neither m))
 
 less_suc : (m n : ℕ) → ltb (suc m) (suc n) ≡ ltb m n
 less_suc m n =
@@ -128,11 +130,11 @@ less_suc m n =
     (λ e. let h : suc m < suc n = ltb-true (suc m) (suc n) e in lt-ltb m n (omega arith))
     (λ e. let h : m < n = ltb-true m n e in lt-ltb (suc m) (suc n) (omega arith))
 
-pub counted : (n : ℕ) (rs ss : List (List ℕ)) → ends_in n rs ss ≡ cond (ltb (length rs) (length ss)) (EndsFirst (n + length rs)) (cond (ltb (length ss) (length rs)) (EndsSecond (n + length ss)) (Neither (n + length rs)))
+pub counted : (n : ℕ) (rs ss : List (List ℕ)) → ends_in n rs ss ≡ cond (ltb (length rs) (length ss)) (ends_first (n + length rs)) (cond (ltb (length ss) (length rs)) (ends_second (n + length ss)) (ends_neither (n + length rs)))
 unfolding ends_in
-counted n [] [] = ap Neither (omega arith)
-counted n [] (s ∷ ss) = rw (lt-ltb 0 (suc (length ss)) (omega arith)) (ap EndsFirst (omega arith))
-counted n (r ∷ rs) [] = rw (le-ltb (suc (length rs)) 0 (omega arith), lt-ltb 0 (suc (length rs)) (omega arith)) (ap EndsSecond (omega arith))
+counted n [] [] = ap ends_neither (omega arith)
+counted n [] (s ∷ ss) = rw (lt-ltb 0 (suc (length ss)) (omega arith)) (ap ends_first (omega arith))
+counted n (r ∷ rs) [] = rw (le-ltb (suc (length rs)) 0 (omega arith), lt-ltb 0 (suc (length rs)) (omega arith)) (ap ends_second (omega arith))
 counted n (r ∷ rs) (s ∷ ss) =
     let a : n + 1 + length rs ≡ n + suc (length rs) = omega arith in
     let b : n + 1 + length ss ≡ n + suc (length ss) = omega arith in

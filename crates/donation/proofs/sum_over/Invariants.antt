@@ -12,7 +12,4 @@ abbrev pub part_at : ℕ → List ℕ → ℕ → ℕ
 part_at set shares n = cond (has set n) (get_or shares n 0) 0
 
 abbrev pub invariant-loop-n : goal.invariant-loop-n
-invariant-loop-n l = (l.sum ≡ sum_to (part_at l.set l.shares) l.n) × (l.n ≤ 63) × (l.sum ≤ 2 ^ 32 * l.n)
-
-abbrev pub decreases-loop-n : goal.decreases-loop-n
-decreases-loop-n l = 63 - l.n
+invariant-loop-n l = (l.sum ≡ sum_to (part_at l.set l.shares) (l.n - 1)) × (l.sum ≤ 2 ^ 32 * (l.n - 1))

@@ -1,8 +1,7 @@
 -- A run: calls from a fresh start with answers of every kind, so that a promise about sound states is no empty one.
 -- Assumes nothing.
-use Rattle.std.specs.Prelude.{◌≡◌, refl, [], ◌∷◌, ◌-◌, ◌^◌}
+use Rattle.std.specs.Prelude.{◌≡◌, refl, [], ◌∷◌, ◌-◌, ◌^◌, Err, Ok}
 use Rattle.rules.specs.Ledger.{Call}
-use Rattle.rules.specs.declared.refusals.Count.TheVariants.{Released, Refused as Unticked}
 use Rattle.rules.specs.declared.refusals.Refusal.TheVariants.{ClockFull}
 use Rattle.rules.specs.Bench.{computed}
 use Rattle.rules.specs.Bench.Run.{aged, begun, moves, replies, reply, seen, to_tick, up_to, wants, weights, weights_up_to}
@@ -30,7 +29,7 @@ unfolding computed moves begun weights
 weights_reach = (refl, refl)
 
 -- a nanosecond more is 4 of virtual time
-pub limit_answers : (reply (Call.tick 2000500003 []) (aged (2 ^ 60 - 4) (up_to 585)) ≡ to_tick (Released 0) [])
-    × (reply (Call.tick 2000500003 []) (aged (2 ^ 60 - 3) (up_to 585)) ≡ to_tick (Unticked ClockFull) [])
+pub limit_answers : (reply (Call.tick 2000500003 []) (aged (2 ^ 60 - 4) (up_to 585)) ≡ to_tick (Ok 0) [])
+    × (reply (Call.tick 2000500003 []) (aged (2 ^ 60 - 3) (up_to 585)) ≡ to_tick (Err ClockFull) [])
 unfolding computed moves begun
 limit_answers = (refl, refl)

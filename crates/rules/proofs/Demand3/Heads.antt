@@ -1,7 +1,7 @@
 -- Each head of the ledger is what the answers and the states say, of one call upon any sound state: whose bios are released,
 -- which ids are written where, what counts as issued, what is repaid, forgiven and generated, and that a refusal counts nothing.
 -- Assumes nothing.
-use Rattle.std.specs.Prelude.{◌≡◌, Bool, cond, ◌&&◌, ◌⊎◌, ◌≢◌, length, drop}
+use Rattle.std.specs.Prelude.{◌≡◌, Bool, cond, ◌&&◌, ◌⊎◌, ◌≢◌, length, drop, Err, Ok}
 use Rattle.std.proofs.Math.Path.{refl, ap}
 use Rattle.std.proofs.Common.{sym, ◌∙◌, inl, inr, zero-add, length-append, length-drop, get_or-append-add, get_or-drop}
 use Rattle.std.proofs.Math.Bool.{true, false}
@@ -44,12 +44,10 @@ use Rattle.rules.specs.declared.budget.Queue.{Queue}
 use Rattle.rules.specs.declared.budget.Controller.{Controller}
 use Rattle.rules.specs.declared.refusals.Refusal.{Refusal}
 use Rattle.rules.specs.declared.refusals.Refusal.TheVariants.{NoLeaf}
-use Rattle.rules.specs.declared.refusals.Verdict.{Verdict}
-use Rattle.rules.specs.declared.refusals.Verdict.TheVariants.{Accepted, Refused}
 use Rattle.rules.specs.declared.refusals.Answer.{Answer}
-use Rattle.rules.specs.declared.refusals.Answer.TheVariants.{Issued, Waits, OnDebt, Refused as Declined}
-use Rattle.rules.specs.declared.refusals.Count.TheVariants.{Released}
+use Rattle.rules.specs.declared.refusals.Answer.TheVariants.{Issued, Waits, OnDebt}
 use Rattle.rules.specs.Demand3.Heads.{CountsNothing, Refuses, SameClockAndTree, how_many}
+use Rattle.rules.specs.Results.{Verdict, Answered}
 
 turn_moves_up : (at : Queue → ℕ → ℕ) → ((q : Queue) (i : ℕ) → at (popped q) i ≡ at q (suc i)) → (g : Virt) (c : Controller) (n i : ℕ)
     → at (turn_of g c n).queue i ≡ at (queue_at c n) (how_many g c n + i)
@@ -82,7 +80,7 @@ module _ {c : Controller} (sound : Sound c) (g : Virt) (n : ℕ) where
       rw (active_turn g c n e) (turn_releases_all g (share_at c n) (row_at c n) (queue_at c n) (share_pos sound n e) (sound.queue n))
 
 -- ---- the ids that an accepted tick writes
-module _ {c : Controller} (sound : Sound c) (time : ℕ) (lent : List ℕ) (taken : first_of (tick_checks time (length lent) c) ≡ Accepted) where
+module _ {c : Controller} (sound : Sound c) (time : ℕ) (lent : List ℕ) (taken : first_of (tick_checks time (length lent) c) ≡ Ok tt) where
   written : lent_of time lent c ≡ releases (growth c.clock time) c ++ drop (length (releases (growth c.clock time) c)) lent
   unfolding lent_of lent_by lent_after
   written = rw taken
@@ -91,9 +89,9 @@ module _ {c : Controller} (sound : Sound c) (time : ℕ) (lent : List ℕ) (take
   unfolding releases
   count = length_join (λ n. (turn_of (growth c.clock time) c n).ids) leaf_most
 
-  pub tick_answers_how_many_are_released : (ticked time lent c).answer ≡ Released (sum_to (how_many (growth c.clock time) c) leaf_most)
+  pub tick_answers_how_many_are_released : (ticked time lent c).answer ≡ Ok (sum_to (how_many (growth c.clock time) c) leaf_most)
   unfolding ticked ticked_by
-  tick_answers_how_many_are_released = rw taken (ap Released count)
+  tick_answers_how_many_are_released = rw taken (ap Ok count)
 
   -- those of leaf m + 1 stand behind those of the leaves 1 to m, oldest first
   pub buffer_has_the_released_ids_by_rising_leaf : (m j : ℕ) → m < leaf_most → j < how_many (growth c.clock time) c (suc m)
@@ -131,37 +129,37 @@ module _ {c : Controller} (sound : Sound c) (time : ℕ) (lent : List ℕ) (take
   queue_after_is_that_of_the_turn n = ap (λ (v : Verdict). queue_at (ticked_by v time c).state n) taken ∙ tick_queue sound time n
 
 -- ---- accepted and issued: by the answer, and of the bio's leaf alone
-takes_none : (a : Answer) → if_taken a 0 ≡ 0
-takes_none Issued = refl
-takes_none Waits = refl
-takes_none OnDebt = refl
-takes_none (Declined x) = refl
+takes_none : (a : Answered) → if_taken a 0 ≡ 0
+takes_none (Ok Issued) = refl
+takes_none (Ok Waits) = refl
+takes_none (Ok OnDebt) = refl
+takes_none (Err x) = refl
 
 module _ (b : Bio) (c : Controller) where
-  pub an_issued_bio_counts_its_cost : (submitted b c).answer ≡ Issued → issued (Call.submit b) c b.node ≡ (cost_in c b).0
+  pub an_issued_bio_counts_its_cost : (submitted b c).answer ≡ Ok Issued → issued (Call.submit b) c b.node ≡ (cost_in c b).0
   unfolding issued
   an_issued_bio_counts_its_cost e = rw (e, cost_here b c)
 
-  pub no_other_answer_counts_as_issued : ((submitted b c).answer ≡ Issued → ⊥) → (n : ℕ) → issued (Call.submit b) c n ≡ 0
+  pub no_other_answer_counts_as_issued : ((submitted b c).answer ≡ Ok Issued → ⊥) → (n : ℕ) → issued (Call.submit b) c n ≡ 0
   unfolding issued
   no_other_answer_counts_as_issued h n = go (submitted b c).answer h
     where
-      go : (a : Answer) → (a ≡ Issued → ⊥) → if_issued a (cost_on n b c) ≡ 0
-      go Issued k = absurd (k refl)
-      go Waits k = refl
-      go OnDebt k = refl
-      go (Declined x) k = refl
+      go : (a : Answered) → (a ≡ Ok Issued → ⊥) → if_issued a (cost_on n b c) ≡ 0
+      go (Ok Issued) k = absurd (k refl)
+      go (Ok Waits) k = refl
+      go (Ok OnDebt) k = refl
+      go (Err x) k = refl
 
-  pub a_bio_not_refused_counts_as_accepted : ((x : Refusal) → (submitted b c).answer ≡ Declined x → ⊥)
+  pub a_bio_not_refused_counts_as_accepted : ((x : Refusal) → (submitted b c).answer ≡ Err x → ⊥)
       → accepted (Call.submit b) c b.node ≡ (cost_in c b).0
   unfolding accepted
   a_bio_not_refused_counts_as_accepted h = go (submitted b c).answer h ∙ cost_here b c
     where
-      go : (a : Answer) → ((x : Refusal) → a ≡ Declined x → ⊥) → if_taken a (cost_on b.node b c) ≡ cost_on b.node b c
-      go Issued k = refl
-      go Waits k = refl
-      go OnDebt k = refl
-      go (Declined x) k = absurd (k x refl)
+      go : (a : Answered) → ((x : Refusal) → a ≡ Err x → ⊥) → if_taken a (cost_on b.node b c) ≡ cost_on b.node b c
+      go (Ok Issued) k = refl
+      go (Ok Waits) k = refl
+      go (Ok OnDebt) k = refl
+      go (Err x) k = absurd (k x refl)
 
   pub no_other_leaf_counts : (n : ℕ) → n ≢ b.node → (accepted (Call.submit b) c n ≡ 0) × (issued (Call.submit b) c n ≡ 0)
   unfolding accepted issued
@@ -178,7 +176,7 @@ module _ {c : Controller} (sound : Sound c) (b : Bio) (n : ℕ) where
 
 -- ---- repaid: the smaller of the debt and what the budget, with the tick's gain, can repay; the debt falls by just that
 module _ {c : Controller} (sound : Sound c) (time : ℕ) (lent : List ℕ) (n : ℕ) where
-  pub repaid_is_the_smaller_of_debt_and_budget : first_of (tick_checks time (length lent) c) ≡ Accepted
+  pub repaid_is_the_smaller_of_debt_and_budget : first_of (tick_checks time (length lent) c) ≡ Ok tt
       → repaid (Call.tick time lent) c n ≡ min (owed c n) (repayable (virt ((row_at c n).budget.0 + (growth c.clock time).0)) (share_at c n)).0
   unfolding repaid repayment
   repaid_is_the_smaller_of_debt_and_budget taken = rw taken (go (has c.active n) refl)
@@ -200,8 +198,8 @@ module _ {c : Controller} (sound : Sound c) (time : ℕ) (lent : List ℕ) (n : 
   debt_falls_by_just_what_is_repaid = go (first_of (tick_checks time (length lent) c))
     where
       go : (v : Verdict) → owed (ticked_by v time c).state n + if_accepted v (repaid_at (growth c.clock time) c n) ≡ owed c n
-      go Accepted = omega (arith, (leaf_tick sound (growth c.clock time) n).debt, ap (λ (r : Row). r.debt.0) (tick_row sound time n))
-      go (Refused x) = omega arith
+      go (Ok tt) = omega (arith, (leaf_tick sound (growth c.clock time) n).debt, ap (λ (r : Row). r.debt.0) (tick_row sound time n))
+      go (Err x) = omega arith
 
 -- ---- forgiven: half of each debt, rounded down, exactly when twice the usage is below E
 module _ {c : Controller} (sound : Sound c) (n : ℕ) where
@@ -219,7 +217,7 @@ module _ {c : Controller} (sound : Sound c) (n : ℕ) (other : is_leaf c.tree n 
     where
       go : (t : Bool) → eqb b.node n ≡ t → if_issued (submitted b c).answer (cost_on n b c) ≡ 0
       go true h =
-          let refused : (submitted b c).answer ≡ Declined NoLeaf = (refusal_4_exactly_when b c).1 (rw (eqb-true b.node n h) other) in
+          let refused : (submitted b c).answer ≡ Err NoLeaf = (refusal_4_exactly_when b c).1 (rw (eqb-true b.node n h) other) in
           rw refused
       go false h = rw (cost_elsewhere b c n (λ e. eqb-false b.node n h (sym e))) (issues_none (submitted b c).answer)
 
@@ -227,8 +225,8 @@ module _ {c : Controller} (sound : Sound c) (n : ℕ) (other : is_leaf c.tree n 
   idle_there = is_false (has c.active n) (λ e. true_not_false (sound.active n e) other)
 
   nothing_if_accepted : (v : Verdict) (x : ℕ) → x ≡ 0 → if_accepted v x ≡ 0
-  nothing_if_accepted Accepted x e = e
-  nothing_if_accepted (Refused r) x e = refl
+  nothing_if_accepted (Ok tt) x e = e
+  nothing_if_accepted (Err r) x e = refl
 
   pub only_leaves_are_charged : (k : Call) → issued k c n + released k c n + repaid k c n ≡ 0
   unfolding released repaid issued
@@ -268,11 +266,11 @@ settling_keeps_both a b c = go (ends_donation a && has c.donors b.node)
 
 pub submitting_keeps_both : (b : Bio) (c : Controller) (v : Verdict) → SameClockAndTree c (submitted_by v b c).state
 unfolding submitted_by submission
-submitting_keeps_both b c Accepted =
+submitting_keeps_both b c (Ok tt) =
     let s = settling_keeps_both (would_be c b) b (entered b.node c) in
     let e = entering_keeps_both b.node c in
     record { clock = s.clock ∙ e.clock; tree = s.tree ∙ e.tree }
-submitting_keeps_both b c (Refused x) = record { clock = refl; tree = refl }
+submitting_keeps_both b c (Err x) = record { clock = refl; tree = refl }
 
 sharing_keeps_both : (active donors : ℕ) (bases targets : List ℕ) (c : Controller) → SameClockAndTree c (shared active donors bases targets c)
 unfolding shared reshared
@@ -283,19 +281,19 @@ sharing_keeps_both active donors bases targets c = go (is_donation active donors
     go false = record { clock = refl; tree = refl }
 
 -- of a plan E starts at 0
-pub planning_restarts_the_clock : (c : Controller) → (planned_by Accepted c).state.clock ≡ restarted_clock c.clock
+pub planning_restarts_the_clock : (c : Controller) → (planned_by (Ok tt) c).state.clock ≡ restarted_clock c.clock
 unfolding planned_by planning closed
 planning_restarts_the_clock c = (sharing_keeps_both _ _ _ _ (closed _ _ c)).clock
 
 pub planning_keeps_times : (c : Controller) (v : Verdict) → SameTimes c.clock (planned_by v c).state.clock
 unfolding planned_by
-planning_keeps_times c Accepted = rw (planning_restarts_the_clock c) (record { time = refl; vtime = refl; remainder = refl })
-planning_keeps_times c (Refused x) = same_times refl
+planning_keeps_times c (Ok tt) = rw (planning_restarts_the_clock c) (record { time = refl; vtime = refl; remainder = refl })
+planning_keeps_times c (Err x) = same_times refl
 
 pub planning_keeps_the_tree : (c : Controller) (v : Verdict) → (planned_by v c).state.tree ≡ c.tree
 unfolding planned_by planning closed
-planning_keeps_the_tree c Accepted = (sharing_keeps_both _ _ _ _ (closed _ _ c)).tree
-planning_keeps_the_tree c (Refused x) = refl
+planning_keeps_the_tree c (Ok tt) = (sharing_keeps_both _ _ _ _ (closed _ _ c)).tree
+planning_keeps_the_tree c (Err x) = refl
 
 -- what a call does to the clock: an accepted tick moves it, and nothing else moves time, virtual time or remainder
 pub call_passes : (k : Call) (c : Controller) → Passing (generated k c) (exact k c) c.clock (after k c).clock
@@ -306,8 +304,8 @@ call_passes (Call.tick time lent) c = go (first_of (tick_checks time (length len
   where
     go : (v : Verdict) → first_of (tick_checks time (length lent) c) ≡ v
         → Passing (if_accepted v (growth c.clock time).0) (if_accepted v ((time - c.clock.time) * c.clock.vrate)) c.clock (ticked_by v time c).state.clock
-    go Accepted e = a_tick_passes c.clock time (tick_passes time (length lent) c e).forward
-    go (Refused x) e = nothing_passes _ _ (same_times refl)
+    go (Ok tt) e = a_tick_passes c.clock time (tick_passes time (length lent) c e).forward
+    go (Err x) e = nothing_passes _ _ (same_times refl)
 call_passes Call.plan c = nothing_passes _ _ (planning_keeps_times c (first_of (plan_checks c)))
 call_passes (Call.set x) c = nothing_passes _ _ (set_keeps_times x c)
 
@@ -331,7 +329,7 @@ a_question_counts_nothing b c = record {
 pub a_refused_call_counts_nothing : (k : Call) (c : Controller) (x : Refusal) → Refuses k c x → CountsNothing k c
 unfolding accepted issued released repaid forgiven generated exact submitted submitted_by
 a_refused_call_counts_nothing (Call.submit b) c x e =
-    let v : first_of (submit_checks b c) ≡ Refused x = (submit_refuses_exactly_when b c x).0 e in
+    let v : first_of (submit_checks b c) ≡ Err x = (submit_refuses_exactly_when b c x).0 e in
     record {
       state_stays = a_refused_bio_changes_nothing b c x e;
       none_accepted = λ n. ap (λ (t : Verdict). if_taken (submitted_by t b c).answer (cost_on n b c)) v;
@@ -344,7 +342,7 @@ a_refused_call_counts_nothing (Call.submit b) c x e =
     }
 a_refused_call_counts_nothing (Call.ask b) c x e = a_question_counts_nothing b c
 a_refused_call_counts_nothing (Call.tick time lent) c x e =
-    let v : first_of (tick_checks time (length lent) c) ≡ Refused x = (tick_refuses_exactly_when time lent c x).0 e in
+    let v : first_of (tick_checks time (length lent) c) ≡ Err x = (tick_refuses_exactly_when time lent c x).0 e in
     record {
       state_stays = (a_refused_tick_changes_nothing time lent c x e).0;
       none_accepted = λ n. refl;
@@ -356,7 +354,7 @@ a_refused_call_counts_nothing (Call.tick time lent) c x e =
       none_exact = rw v;
     }
 a_refused_call_counts_nothing Call.plan c x e =
-    let v : first_of (plan_checks c) ≡ Refused x = (plan_refuses c x).0 e in
+    let v : first_of (plan_checks c) ≡ Err x = (plan_refuses c x).0 e in
     record {
       state_stays = a_refused_plan_changes_nothing c x e;
       none_accepted = λ n. refl;

@@ -1,6 +1,6 @@
 -- Up to the next plan: a leaf with an accepted bio, a flush too, stays active over any calls, and that plan leaves it active.
 -- Assumes nothing.
-use Rattle.std.specs.Prelude.{◌≡◌, refl, ◌≢◌, true, false, List, [], ◌∷◌, ℕ, length}
+use Rattle.std.specs.Prelude.{◌≡◌, refl, ◌≢◌, true, false, List, [], ◌∷◌, ℕ, length, Err, Ok}
 use Rattle.std.proofs.Common.{ap, ◌∙◌}
 use Rattle.std.proofs.Math.Logic.{dite}
 use Rattle.std.proofs.Math.Decide.{ℕ_discrete}
@@ -27,9 +27,8 @@ use Rattle.rules.specs.declared.cost.Bio.{Bio}
 use Rattle.rules.specs.declared.budget.Row.{Row}
 use Rattle.rules.specs.declared.budget.Controller.{Controller}
 use Rattle.rules.specs.declared.replay.Setting.TheVariants.{Vrate, Weight}
-use Rattle.rules.specs.declared.refusals.Verdict.{Verdict}
-use Rattle.rules.specs.declared.refusals.Verdict.TheVariants.{Accepted, Refused}
 use Rattle.rules.specs.Demand3.Plans.{Counted, NoPlan, is_plan}
+use Rattle.rules.specs.Results.{Verdict}
 
 -- ---- one call
 submit_counts : {c : Controller} → Sound c → (b : Bio) (n : ℕ) → Counted c n → Counted (submitted b c).state n
@@ -65,22 +64,22 @@ call_counts (Call.ask b) s e n w = w
 call_counts (Call.tick time lent) {c} s e n w = go (first_of (tick_checks time (length lent) c))
   where
     go : (v : Verdict) → Counted (ticked_by v time c).state n
-    go Accepted = tick_counts s time n w
-    go (Refused x) = w
+    go (Ok tt) = tick_counts s time n w
+    go (Err x) = w
 call_counts Call.plan s e n w = absurd (true_not_false refl e)
 call_counts (Call.set (Vrate r)) {c} s e n w = go (first_of (vrate_checks r))
   where
     go : (v : Verdict) → Counted (vrated_by v r c).state n
-    go Accepted = record { active = w.active; accepted = w.accepted }
-    go (Refused x) = w
+    go (Ok tt) = record { active = w.active; accepted = w.accepted }
+    go (Err x) = w
 call_counts (Call.set (Weight m x)) {c} s e n w = go (first_of (weight_checks m x c.tree))
   where
     go : (v : Verdict) → Counted (weighted_by v m x c).state n
-    go Accepted = record {
+    go (Ok tt) = record {
       active = rw (weight_keeps_active s m x) w.active;
       accepted = ap (λ (r : Row). r.accepted) (weight_changes_budgets_alone s m x n) ∙ w.accepted;
     }
-    go (Refused y) = w
+    go (Err y) = w
 
 -- ---- any calls but a plan
 counts : (ks : List Call) {c : Controller} → Sound c → NoPlan ks → (n : ℕ) → Counted c n → Counted (run ks c) n
@@ -89,7 +88,7 @@ counts (k ∷ ks) s (here, there) n w = counts ks (call_keeps k s) there n (call
 
 -- "accepted since the last plan": the plan leaves its leaf active, whatever bios, ticks and settings came between, and whatever
 -- became of the bio meanwhile
-pub an_accepted_bio_counts_up_to_the_plan : {c : Controller} → Sound c → (b : Bio) → first_of (submit_checks b c) ≡ Accepted
+pub an_accepted_bio_counts_up_to_the_plan : {c : Controller} → Sound c → (b : Bio) → first_of (submit_checks b c) ≡ Ok tt
     → (ks : List Call) → NoPlan ks → has (plan (run ks (submitted b c).state)).active b.node ≡ true
 an_accepted_bio_counts_up_to_the_plan {c} s b taken ks none =
     let there : Sound (submitted b c).state = submit_keeps s b in

@@ -1,6 +1,6 @@
 -- Virtual time over any list of calls: ticks round nothing away between them, however often they come.
 -- Assumes nothing.
-use Rattle.std.specs.Prelude.{◌≡◌, refl, false, List, [], ◌∷◌, ℕ, ◌+◌, ◌-◌, ◌*◌, ◌≤◌, ◌<◌, length}
+use Rattle.std.specs.Prelude.{◌≡◌, refl, false, List, [], ◌∷◌, ℕ, ◌+◌, ◌-◌, ◌*◌, ◌≤◌, ◌<◌, length, Err, Ok}
 use Rattle.std.proofs.Common.{sym, ap, ◌∙◌, arith}
 use Rattle.rules.specs.Units.{floor_of}
 use Rattle.rules.specs.Tick.{advanced, tick as ticking}
@@ -20,9 +20,8 @@ use Rattle.rules.specs.declared.tree.Tree.{Tree}
 use Rattle.rules.specs.declared.budget.Clock.{Clock}
 use Rattle.rules.specs.declared.budget.Controller.{Controller}
 use Rattle.rules.specs.declared.replay.Setting.TheVariants.{Vrate, Weight}
-use Rattle.rules.specs.declared.refusals.Verdict.{Verdict}
-use Rattle.rules.specs.declared.refusals.Verdict.TheVariants.{Accepted, Refused}
 use Rattle.rules.specs.Demand3.Times.{NoVrate, Steady, if_ticked, sets_vrate, time_after}
+use Rattle.rules.specs.Results.{Verdict}
 
 -- ---- with vrate changing: 100 x virtual time + remainder grows by the exact sum of elapsed x vrate
 pub nothing_is_rounded_away : (ks : List Call) (c : Controller) → in_hundredths (run ks c).clock ≡ in_hundredths c.clock + sum_of exact ks c
@@ -46,13 +45,13 @@ vrate_stays (Call.ask b) c e = refl
 vrate_stays (Call.tick time lent) c e = go (first_of (tick_checks time (length lent) c))
   where
     go : (v : Verdict) → (ticked_by v time c).state.clock.vrate ≡ c.clock.vrate
-    go Accepted = refl
-    go (Refused x) = refl
+    go (Ok tt) = refl
+    go (Err x) = refl
 vrate_stays Call.plan c e = go (first_of (plan_checks c))
   where
     go : (v : Verdict) → (planned_by v c).state.clock.vrate ≡ c.clock.vrate
-    go Accepted = ap (λ (k : Clock). k.vrate) (planning_restarts_the_clock c)
-    go (Refused x) = refl
+    go (Ok tt) = ap (λ (k : Clock). k.vrate) (planning_restarts_the_clock c)
+    go (Err x) = refl
 vrate_stays (Call.set (Vrate v)) c e = absurd (true_not_false refl e)
 vrate_stays (Call.set (Weight n w)) c e = ap (λ (k : Clock). k.vrate) (setting_a_weight_keeps_the_clock n w c)
 
@@ -70,8 +69,8 @@ the_time_is_the_last_accepted (Call.ask b) c = refl
 the_time_is_the_last_accepted (Call.tick time lent) c = go (first_of (tick_checks time (length lent) c))
   where
     go : (v : Verdict) → (ticked_by v time c).state.clock.time ≡ if_ticked v time c.clock.time
-    go Accepted = refl
-    go (Refused x) = refl
+    go (Ok tt) = refl
+    go (Err x) = refl
 the_time_is_the_last_accepted Call.plan c = (planning_keeps_times c (first_of (plan_checks c))).time
 the_time_is_the_last_accepted (Call.set x) c = (set_keeps_times x c).time
 
@@ -110,8 +109,8 @@ unfolding started started_by
 start_begins_at_nothing tree rates time = go (first_of (start_checks tree rates))
   where
     go : (v : Verdict) → in_hundredths (started_by v tree rates time).state.clock ≡ 0
-    go Accepted = refl
-    go (Refused x) = refl
+    go (Ok tt) = refl
+    go (Err x) = refl
 
 module _ (tree : Tree) (rates : Rates) (time : ℕ) (ks : List Call) where
   pub the_remainder_is_below_100 : (run ks (started tree rates time).state).clock.remainder < 100

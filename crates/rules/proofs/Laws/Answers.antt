@@ -1,12 +1,11 @@
 -- Steps 2 and 3 of a submission on one leaf: which answer is given exactly when.
 -- Assumes nothing.
-use Rattle.std.specs.Prelude.{◌≡◌, refl, ◌↔◌, Bool, cond, ◌&&◌, ℕ, ◌≤◌}
+use Rattle.std.specs.Prelude.{◌≡◌, refl, ◌↔◌, Bool, cond, ◌&&◌, ℕ, ◌≤◌, Err, Ok}
 use Rattle.std.proofs.Math.Bool.{true, false, not}
 use Rattle.std.proofs.Common.{arith, leb-true, le-leb, ltb-false, le-ltb}
 use Rattle.std.proofs.lemmas.Bool.{not-true}
 use Rattle.rules.specs.Units.{relative}
-use Rattle.rules.specs.Cost.{is_forced}
-use Rattle.rules.specs.Budget.{owes, waits, fits, length_only, answer_to, answer_in, would_be}
+use Rattle.rules.specs.Budget.{owes, waits, fits, length_only, answer_to, would_be}
 use Rattle.rules.proofs.Laws.Bools.{never, true_not_false, exactly, exactly_both, exactly_not}
 use Rattle.rules.specs.declared.units.Abs.{Abs}
 use Rattle.rules.specs.declared.cost.Bio.{Bio}
@@ -15,7 +14,8 @@ use Rattle.rules.specs.declared.budget.Queue.{Queue}
 use Rattle.rules.specs.declared.budget.Controller.{Controller}
 use Rattle.rules.specs.declared.refusals.Refusal.{Refusal}
 use Rattle.rules.specs.declared.refusals.Answer.{Answer}
-use Rattle.rules.specs.declared.refusals.Answer.TheVariants.{Issued, Waits, OnDebt, Refused as Declined}
+use Rattle.rules.specs.declared.refusals.Answer.TheVariants.{Issued, Waits, OnDebt}
+use Rattle.rules.specs.Results.{Answered}
 
 -- ---- of the queue steps 2 and 3 look at how many wait
 pub answer_by_count : (forced : Bool) (cost : Abs) (share : ℕ) (row : Row) (q : Queue)
@@ -55,7 +55,7 @@ other_if_not : (a : Answer) → Other a → (t : Bool) → (cond t Issued a ≡ 
 other_if_not a o true = (λ e. absurd (o.not_issued (cc)), λ t. absurd (true_not_false refl t))
 other_if_not a o false = (λ e. refl, λ t. refl)
 
-never_declined_if : (a : Answer) (x : Refusal) → (a ≡ Declined x → ⊥) → (t : Bool) → cond t Issued a ≡ Declined x → ⊥
+never_declined_if : (a : Answered) (x : Refusal) → (a ≡ Err x → ⊥) → (t : Bool) → cond t (Ok Issued) a ≡ Err x → ⊥
 never_declined_if a x h true e = never (cc)
 never_declined_if a x h false e = h e
 
@@ -105,11 +105,8 @@ module _ (cost : Abs) (share : ℕ) (r : Row) (q : Queue) where
   issued_fits true e = (fits_its_budget cost share r).1 (forced_is_issued_exactly_when.0 e).fit
 
   -- these steps refuse nothing
-  pub no_refusal : (forced : Bool) (x : Refusal) → answer_to forced cost share r q ≡ Declined x → ⊥
-  unfolding answer_to
-  no_refusal false x e = never_declined_if Waits x (λ i. never (cc)) (not (owes r) && not (waits q) && fits cost share r) e
-  no_refusal true x e = never_declined_if OnDebt x (λ i. never (cc)) (not (owes r) && fits cost share r) e
+  pub no_refusal : (forced : Bool) (x : Refusal) → ◌≡◌ {A = Answered} (Ok (answer_to forced cost share r q)) (Err x) → ⊥
+  no_refusal forced x e = never (cc)
 
-pub answer_is_no_refusal : (c : Controller) (b : Bio) (x : Refusal) → would_be c b ≡ Declined x → ⊥
-unfolding would_be answer_in
-answer_is_no_refusal c b x e = no_refusal _ _ _ _ (is_forced b) x e
+pub answer_is_no_refusal : (c : Controller) (b : Bio) (x : Refusal) → ◌≡◌ {A = Answered} (Ok (would_be c b)) (Err x) → ⊥
+answer_is_no_refusal c b x e = never (cc)

@@ -1,7 +1,7 @@
 -- What a part of a trace keeps, prints and leaves: it keeps what every replay keeps, prints what the whole trace prints
 -- there, and goes as far as its bytes and its room let it.
 -- Assumes nothing.
-use Rattle.std.specs.Prelude.{◌≡◌, Bool, cond, ◌||◌, ◌⊎◌, List, [], ◌++◌}
+use Rattle.std.specs.Prelude.{◌≡◌, Bool, cond, ◌||◌, ◌⊎◌, List, [], ◌++◌, Err, None, Ok, Some}
 use Rattle.std.proofs.Math.Path.{refl}
 use Rattle.std.proofs.Common.{sym, ap, ◌∙◌, append-nil, append_assoc, arith, length-append, ltb-true}
 use Rattle.std.proofs.Math.Bool.{true, false}
@@ -17,10 +17,9 @@ use Rattle.rules.specs.Invariant.{Playing}
 use Rattle.rules.proofs.Laws.Bools.{never, true_not_false, or_left, or_not_left, or_not_right}
 use Rattle.rules.proofs.Laws.Trace.{found_only_whole}
 use Rattle.rules.proofs.Laws.Replays.{stepped_plays}
-use Rattle.rules.specs.declared.trace.Read.{Read}
-use Rattle.rules.specs.declared.trace.Read.TheVariants.{Found, End, Refused as Unread}
 use Rattle.rules.specs.declared.replay.Replay.{Replay}
 use Rattle.rules.specs.declared.replay.Pause.TheVariants.{Over, Bytes, Room}
+use Rattle.rules.specs.Results.{Read}
 
 abbrev pub step_at : List ℕ → ℕ → Replay → Step
 step_at trace place s = stepped (read_at trace place) s
@@ -37,7 +36,7 @@ pub going_steps : (read : Read) (s : Replay) → is_stopped s.phase ≡ false �
 unfolding stepped
 going_steps read s e = rw e
 
-end_steps : (s : Replay) → stepped End s ≡ silent s
+end_steps : (s : Replay) → stepped (Ok None) s ≡ silent s
 unfolding stepped read_step
 end_steps s = go (is_stopped s.phase)
   where
@@ -49,18 +48,18 @@ end_steps s = go (is_stopped s.phase)
 pub data AfterStep (trace : List ℕ) (place : ℕ) (s : Replay) : Type 0 where
   goes_on : place < next_at trace place → next_at trace place ≤ length trace → AfterStep trace place s
   stops : is_stopped (step_at trace place s).replay.phase ≡ true → AfterStep trace place s
-  ends : read_at trace place ≡ End → AfterStep trace place s
+  ends : read_at trace place ≡ Ok None → AfterStep trace place s
 
 pub after_a_step : (trace : List ℕ) (place : ℕ) (s : Replay) → AfterStep trace place s
 unfolding read_step behind
 after_a_step trace place s = by_phase (is_stopped s.phase) refl
   where
     by_read : is_stopped s.phase ≡ false → (read : Read) → read_at trace place ≡ read → AfterStep trace place s
-    by_read g (Found r next) e =
-        let f = found_only_whole trace place r next e in
+    by_read g (Ok (Some h)) e =
+        let f = found_only_whole trace place h.item h.next e in
         goes_on (rw e (omega (arith, f.to))) (rw e (omega (arith, f.to, f.inside)))
-    by_read g End e = ends e
-    by_read g (Unread x) e = stops (rw (e, going_steps (Unread x) s g))
+    by_read g (Ok None) e = ends e
+    by_read g (Err x) e = stops (rw (e, going_steps (Err x) s g))
 
     by_phase : (b : Bool) → is_stopped s.phase ≡ b → AfterStep trace place s
     by_phase true e = stops (rw (stopped_steps (read_at trace place) s e) e)
@@ -81,7 +80,7 @@ stopped_is_silent zero trace place s e = rw (replays_one trace place s, stopped_
 stopped_is_silent (suc f) trace place s e =
     rw (replays_on f trace place s, stopped_steps (read_at trace place) s e) (stopped_is_silent f trace (next_at trace place) s e)
 
-end_is_silent : (f : ℕ) (trace : List ℕ) (place : ℕ) (s : Replay) → read_at trace place ≡ End → replay_from f trace place s ≡ []
+end_is_silent : (f : ℕ) (trace : List ℕ) (place : ℕ) (s : Replay) → read_at trace place ≡ Ok None → replay_from f trace place s ≡ []
 end_is_silent zero trace place s e = rw (replays_one trace place s, e, end_steps s)
 end_is_silent (suc f) trace place s e = rw (replays_on f trace place s, e, end_steps s) (end_is_silent f trace place s e)
 
@@ -144,9 +143,9 @@ pub next_inside : (trace : List ℕ) (place : ℕ) → place ≤ length trace �
 next_inside trace place h = go (read_at trace place) refl
   where
     go : (read : Read) → read_at trace place ≡ read → next_place read place ≤ length trace
-    go (Found r next) e = let f = found_only_whole trace place r next e in rw f.to f.inside
-    go End e = h
-    go (Unread x) e = h
+    go (Ok (Some g)) e = let f = found_only_whole trace place g.item g.next e in rw f.to f.inside
+    go (Ok None) e = h
+    go (Err x) e = h
 
 module _ (last : Bool) (trace : List ℕ) (room place : ℕ) where
   pub part_plays : {s : Replay} → Playing s → Playing (part last trace room place s).replay
@@ -189,11 +188,11 @@ room_when false true end short e h = never (cc)
 room_when false false true short e h = never (cc)
 room_when false false false short e h = h
 
-end_when : (read : Read) → is_end read ≡ true → read ≡ End
+end_when : (read : Read) → is_end read ≡ true → read ≡ Ok None
 unfolding is_end
-end_when (Found r next) e = absurd (true_not_false e refl)
-end_when End e = refl
-end_when (Unread x) e = absurd (true_not_false e refl)
+end_when (Ok (Some f)) e = absurd (true_not_false e refl)
+end_when (Ok None) e = refl
+end_when (Err x) e = absurd (true_not_false e refl)
 
 -- ---- a part prints what the whole trace prints there, if what it reads is read there too
 module _ (last : Bool) (here all : List ℕ)

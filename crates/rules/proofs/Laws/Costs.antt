@@ -1,6 +1,6 @@
 -- Laws of costs: what a priced model keeps, how small and how large a cost can be, and when a price or a cost is refused.
 -- Assumes nothing.
-use Rattle.std.specs.Prelude.{◌≡◌, ◌↔◌, ◌⊎◌, Bool, cond, not, ◌&&◌, ℕ, ◌+◌, ◌*◌, ◌%◌, ◌≤◌, ◌<◌, eqb, leb, ltb}
+use Rattle.std.specs.Prelude.{◌≡◌, ◌↔◌, ◌⊎◌, Bool, cond, not, ◌&&◌, ℕ, ◌+◌, ◌*◌, ◌%◌, ◌≤◌, ◌<◌, eqb, leb, ltb, Err, Ok}
 use Rattle.std.proofs.Math.Path.{refl, ap}
 use Rattle.std.proofs.Common.{sym, ⊎_elim, mul-le-mul_left, arith}
 use Rattle.std.proofs.Math.Bool.{true, false}
@@ -21,10 +21,7 @@ use Rattle.rules.specs.declared.cost.Model.{Model}
 use Rattle.rules.specs.declared.cost.Bio.{Bio}
 use Rattle.rules.specs.declared.budget.Row.{Row}
 use Rattle.rules.specs.declared.refusals.Refusal.TheVariants.{BadRate, BadBio, TooDear}
-use Rattle.rules.specs.declared.refusals.Verdict.TheVariants.{Accepted, Refused}
-use Rattle.rules.specs.declared.refusals.Pricing.TheVariants.{Priced, Refused as Unpriced}
-use Rattle.rules.specs.declared.refusals.Costing.{Costing}
-use Rattle.rules.specs.declared.refusals.Costing.TheVariants.{Costs, Refused as Uncosted}
+use Rattle.rules.specs.Results.{Costing}
 
 -- ---- the ranges, as facts on numbers
 pub record RatesInRange (r : Rates) : Type 0 where
@@ -191,17 +188,17 @@ pub end_at_most : (b : Bio) → bio_in_range b ≡ true → end_of b ≤ end_mos
 end_at_most b e = let w = (bio_in_range_lem b).0 e in omega (arith, w.sector_fits, bytes_most_lem b w)
 
 -- ---- refusal 3 exactly when a rate is out of range
-pricing_by_lem : (t : Bool) (r : Rates) → (pricing_by (cond (not t) (Refused BadRate) Accepted) r ≡ Unpriced BadRate) ↔ (t ≡ false)
+pricing_by_lem : (t : Bool) (r : Rates) → (pricing_by (cond (not t) (Err BadRate) (Ok tt)) r ≡ Err BadRate) ↔ (t ≡ false)
 unfolding pricing_by
 pricing_by_lem true r = (λ e. never (cc), λ f. absurd (true_not_false refl f))
 pricing_by_lem false r = (λ e. refl, λ f. refl)
 
-pub pricing_refuses_exactly_when : (r : Rates) → (pricing r ≡ Unpriced BadRate) ↔ (RatesInRange r → ⊥)
+pub pricing_refuses_exactly_when : (r : Rates) → (pricing r ≡ Err BadRate) ↔ (RatesInRange r → ⊥)
 unfolding pricing rate_checks
 pricing_refuses_exactly_when r =
     exactly (pricing_by_lem (rates_in_range r) r) (exactly_not (rates_in_range r) (rates_in_range_lem r))
 
-pub pricing_prices_all_others : (r : Rates) → RatesInRange r → pricing r ≡ Priced (priced r)
+pub pricing_prices_all_others : (r : Rates) → RatesInRange r → pricing r ≡ Ok (priced r)
 unfolding pricing rate_checks pricing_by
 pricing_prices_all_others r w = rw ((rates_in_range_lem r).1 w)
 
@@ -209,39 +206,39 @@ pricing_prices_all_others r w = rw ((rates_in_range_lem r).1 w)
 module _ (m : Model) (row : Row) (b : Bio) where
   -- what is answered, by whether the bio is in range and whether it is too dear
   abbrev answered : Bool → Bool → Costing
-  answered fit dear = costing_by (cond (not fit) (Refused BadBio) (cond dear (Refused TooDear) Accepted)) m row b
+  answered fit dear = costing_by (cond (not fit) (Err BadBio) (cond dear (Err TooDear) (Ok tt))) m row b
 
-  out_of_range : (fit dear : Bool) → (answered fit dear ≡ Uncosted BadBio) ↔ (fit ≡ false)
+  out_of_range : (fit dear : Bool) → (answered fit dear ≡ Err BadBio) ↔ (fit ≡ false)
   unfolding costing_by
   out_of_range true true = (λ e. never (cc), λ f. absurd (true_not_false refl f))
   out_of_range true false = (λ e. never (cc), λ f. absurd (true_not_false refl f))
   out_of_range false dear = (λ e. refl, λ f. refl)
 
-  too_dear_lem : (fit dear : Bool) → (answered fit dear ≡ Uncosted TooDear) ↔ ((fit && dear) ≡ true)
+  too_dear_lem : (fit dear : Bool) → (answered fit dear ≡ Err TooDear) ↔ ((fit && dear) ≡ true)
   unfolding costing_by
   too_dear_lem true true = (λ e. refl, λ t. refl)
   too_dear_lem true false = (λ e. never (cc), λ t. absurd (true_not_false t refl))
   too_dear_lem false dear = (λ e. never (cc), λ t. absurd (true_not_false t refl))
 
-  costs : (fit dear : Bool) (cost : Abs) → (answered fit dear ≡ Costs cost)
+  costs : (fit dear : Bool) (cost : Abs) → (answered fit dear ≡ Ok cost)
       ↔ (((fit ≡ true) × (dear ≡ false)) × (cost ≡ cost_of m row b))
   unfolding costing_by
   costs true true cost = (λ e. never (cc), λ w. absurd (true_not_false refl w.0.1))
-  costs true false cost = (λ e. ((refl, refl), cc), λ w. ap Costs (sym w.1))
+  costs true false cost = (λ e. ((refl, refl), cc), λ w. ap Ok (sym w.1))
   costs false dear cost = (λ e. never (cc), λ w. absurd (true_not_false w.0.0 refl))
 
-  pub costing_refuses_the_range_exactly_when : (costing m row b ≡ Uncosted BadBio) ↔ (BioInRange b → ⊥)
+  pub costing_refuses_the_range_exactly_when : (costing m row b ≡ Err BadBio) ↔ (BioInRange b → ⊥)
   unfolding costing cost_checks
   costing_refuses_the_range_exactly_when =
       exactly (out_of_range (bio_in_range b) (ltb cost_most (cost_of m row b).0)) (exactly_not (bio_in_range b) (bio_in_range_lem b))
 
-  pub costing_refuses_the_cost_exactly_when : (costing m row b ≡ Uncosted TooDear) ↔ (BioInRange b × (cost_most < (cost_of m row b).0))
+  pub costing_refuses_the_cost_exactly_when : (costing m row b ≡ Err TooDear) ↔ (BioInRange b × (cost_most < (cost_of m row b).0))
   unfolding costing cost_checks
   costing_refuses_the_cost_exactly_when =
       exactly (too_dear_lem (bio_in_range b) (ltb cost_most (cost_of m row b).0))
       (exactly_both _ _ (bio_in_range_lem b) (ltb-true _ _, lt-ltb _ _))
 
-  pub costing_costs_exactly_when : (cost : Abs) → (costing m row b ≡ Costs cost)
+  pub costing_costs_exactly_when : (cost : Abs) → (costing m row b ≡ Ok cost)
       ↔ ((BioInRange b × ((cost_of m row b).0 ≤ cost_most)) × (cost ≡ cost_of m row b))
   unfolding costing cost_checks
   costing_costs_exactly_when cost =

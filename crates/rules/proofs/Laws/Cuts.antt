@@ -1,6 +1,6 @@
 -- However a trace is cut into chunks, and whatever room its lines are given, a program prints what the whole trace prints.
 -- Assumes nothing.
-use Rattle.std.specs.Prelude.{◌≡◌, Bool, cond, ◌&&◌, ◌||◌, ltb, drop}
+use Rattle.std.specs.Prelude.{◌≡◌, Bool, cond, ◌&&◌, ◌||◌, ltb, drop, Err, None, Ok, Some}
 use Rattle.std.proofs.Math.Path.{refl}
 use Rattle.std.proofs.Common.{sym, ◌∙◌, inl, inr, add-zero, arith, length-append, length-drop}
 use Rattle.std.proofs.Math.Bool.{true, false}
@@ -15,23 +15,22 @@ use Rattle.rules.specs.Chunks.{is_end, is_cut, wants_bytes, halts, pause_of, par
 use Rattle.rules.proofs.Laws.Bools.{true_not_false, and_swap, or_left}
 use Rattle.rules.proofs.Laws.Pieces.{same_with_more, shifted, shifted_with_less}
 use Rattle.rules.proofs.Laws.Chunks.{replays_one, replays_on, enough_steps, rest, by_steps, part_inside, part_prints, over_is_silent, Suffices, suffices_on, still_suffices}
-use Rattle.rules.specs.declared.trace.Read.{Read}
-use Rattle.rules.specs.declared.trace.Read.TheVariants.{Found, End, Refused as Unread}
 use Rattle.rules.specs.declared.replay.Replay.{Replay}
 use Rattle.rules.specs.declared.replay.Pause.TheVariants.{Over, Bytes, Room}
+use Rattle.rules.specs.Results.{Read}
 
 -- ---- a replay of what is left of a trace
 shifted_steps : (k : ℕ) (read : Read) (s : Replay) → stepped (shifted k read) s ≡ stepped read s
 unfolding shifted stepped read_step
-shifted_steps k (Found r next) s = refl
-shifted_steps k End s = refl
-shifted_steps k (Unread x) s = refl
+shifted_steps k (Ok (Some f)) s = refl
+shifted_steps k (Ok None) s = refl
+shifted_steps k (Err x) s = refl
 
 shifted_next : (k : ℕ) (read : Read) (at : ℕ) → next_place (shifted k read) (k + at) ≡ k + next_place read at
 unfolding shifted
-shifted_next k (Found r next) at = refl
-shifted_next k End at = refl
-shifted_next k (Unread x) at = refl
+shifted_next k (Ok (Some f)) at = refl
+shifted_next k (Ok None) at = refl
+shifted_next k (Err x) at = refl
 
 module _ (trace : List ℕ) (k : ℕ) (h : k ≤ length trace) where
   replays_shifted : (f at : ℕ) (s : Replay) → replay_from f (drop k trace) at s ≡ replay_from f trace (k + at) s

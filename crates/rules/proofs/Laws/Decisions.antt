@@ -1,6 +1,6 @@
 -- Demand 2 in a customer's words: which bio is issued, which waits and which goes on debt, and what that does to the state.
 -- Assumes nothing.
-use Rattle.std.specs.Prelude.{◌≡◌, refl, ◌↔◌, ◌⊎◌, Bool, ◌&&◌, ℕ, ◌*◌, ◌≤◌, ◌<◌}
+use Rattle.std.specs.Prelude.{◌≡◌, refl, ◌↔◌, ◌⊎◌, Bool, ◌&&◌, ℕ, ◌*◌, ◌≤◌, ◌<◌, Err, Ok}
 use Rattle.std.proofs.Math.Path.{sym, ap}
 use Rattle.std.proofs.Common.{◌∙◌, inl, inr, arith}
 use Rattle.std.proofs.Math.Bool.{true, false}
@@ -22,10 +22,9 @@ use Rattle.rules.proofs.Laws.Resharing.{Reweighed, entering_keeps, entering_rewe
 use Rattle.rules.proofs.Laws.Submits.{cost_in, Admitted, admitted, reweighed_queue, reweighed_cost}
 use Rattle.rules.specs.declared.cost.Bio.{Bio}
 use Rattle.rules.specs.declared.budget.Controller.{Controller}
-use Rattle.rules.specs.declared.refusals.Verdict.{Verdict}
-use Rattle.rules.specs.declared.refusals.Verdict.TheVariants.{Accepted, Refused}
 use Rattle.rules.specs.declared.refusals.Answer.{Answer}
 use Rattle.rules.specs.declared.refusals.Answer.TheVariants.{Issued, Waits, OnDebt}
+use Rattle.rules.specs.Results.{Verdict, Answered}
 
 -- ---- the bio's leaf, in the state as it was, can pay for it
 pub record Affordable (b : Bio) (c : Controller) : Type 0 where
@@ -86,40 +85,47 @@ module _ {c : Controller} (s : Sound c) (b : Bio) (ok : Admitted b c) where
 exactly_denied : {P Q : Type 0} → P ↔ Q → (P → ⊥) ↔ (Q → ⊥)
 exactly_denied p = (λ n q. n (p.1 q), λ n x. n (p.0 x))
 
+-- an answer is given as it is
+pub same_answer : (a d : Answer) → ◌≡◌ {A = Answered} (Ok a) (Ok d) → a ≡ d
+same_answer a d e = cc
+
+given_as : (a d : Answer) → ◌≡◌ {A = Answered} (Ok a) (Ok d) ↔ (a ≡ d)
+given_as a d = (same_answer a d, λ e. ap Ok e)
+
 -- ---- what is answered to a bio that is not refused
-pub not_refused_is_answered : (b : Bio) (c : Controller) → first_of (submit_checks b c) ≡ Accepted → (submitted b c).answer ≡ would_be c b
+pub not_refused_is_answered : (b : Bio) (c : Controller) → first_of (submit_checks b c) ≡ Ok tt → (submitted b c).answer ≡ Ok (would_be c b)
 unfolding submitted submitted_by submission would_be
 not_refused_is_answered b c e = ap (λ (v : Verdict). (submitted_by v b c).answer) e
 
-module _ {c : Controller} (s : Sound c) (b : Bio) (taken : first_of (submit_checks b c) ≡ Accepted) where
-  answered : (submitted b c).answer ≡ would_be c b
+module _ {c : Controller} (s : Sound c) (b : Bio) (taken : first_of (submit_checks b c) ≡ Ok tt) where
+  answered : (submitted b c).answer ≡ Ok (would_be c b)
   answered = not_refused_is_answered b c taken
 
   ok : Admitted b c
   ok = admitted b c taken
 
   -- "Unforced: issued exactly if debt is 0, nothing waits and relative cost <= budget"
-  pub issued_exactly_when : is_forced b ≡ false → ((submitted b c).answer ≡ Issued) ↔ FirstInLine b c
+  pub issued_exactly_when : is_forced b ≡ false → ((submitted b c).answer ≡ Ok Issued) ↔ FirstInLine b c
   unfolding would_be answer_in
-  issued_exactly_when e = rw (answered, e) (exactly (unforced_is_issued_exactly_when _ _ _ _) (can_pay_first_there s b ok))
+  issued_exactly_when e = rw (answered, e) (exactly (given_as _ Issued) (exactly (unforced_is_issued_exactly_when _ _ _ _) (can_pay_first_there s b ok)))
 
   -- "Else it waits"
-  pub waits_exactly_when : is_forced b ≡ false → ((submitted b c).answer ≡ Waits) ↔ (FirstInLine b c → ⊥)
+  pub waits_exactly_when : is_forced b ≡ false → ((submitted b c).answer ≡ Ok Waits) ↔ (FirstInLine b c → ⊥)
   unfolding would_be answer_in
-  waits_exactly_when e = rw (answered, e) (exactly (unforced_waits_exactly_when _ _ _ _) (exactly_denied (can_pay_first_there s b ok)))
+  waits_exactly_when e = rw (answered, e) (exactly (given_as _ Waits) (exactly (unforced_waits_exactly_when _ _ _ _) (exactly_denied (can_pay_first_there s b ok))))
 
   -- "Forced: if debt is 0 and it fits, issued and charged, even past waiters"
-  pub forced_issued_exactly_when : is_forced b ≡ true → ((submitted b c).answer ≡ Issued) ↔ Affordable b c
+  pub forced_issued_exactly_when : is_forced b ≡ true → ((submitted b c).answer ≡ Ok Issued) ↔ Affordable b c
   unfolding would_be answer_in
-  forced_issued_exactly_when e = rw (answered, e) (exactly (forced_is_issued_exactly_when _ _ _ _) (can_pay_there s b ok))
+  forced_issued_exactly_when e = rw (answered, e) (exactly (given_as _ Issued) (exactly (forced_is_issued_exactly_when _ _ _ _) (can_pay_there s b ok)))
 
   -- "Else it goes on debt"
-  pub on_debt_exactly_when : is_forced b ≡ true → ((submitted b c).answer ≡ OnDebt) ↔ (Affordable b c → ⊥)
+  pub on_debt_exactly_when : is_forced b ≡ true → ((submitted b c).answer ≡ Ok OnDebt) ↔ (Affordable b c → ⊥)
   unfolding would_be answer_in
-  on_debt_exactly_when e = rw (answered, e) (exactly (forced_goes_on_debt_exactly_when _ _ _ _) (exactly_denied (can_pay_there s b ok)))
+  on_debt_exactly_when e = rw (answered, e) (exactly (given_as _ OnDebt) (exactly (forced_goes_on_debt_exactly_when _ _ _ _) (exactly_denied (can_pay_there s b ok))))
 
   -- what wakes a leaf is never issued
-  pub inactive_never_issues : has c.active b.node ≡ false → (submitted b c).answer ≡ Issued → ⊥
+  pub inactive_never_issues : has c.active b.node ≡ false → (submitted b c).answer ≡ Ok Issued → ⊥
   inactive_never_issues idle i = go (is_forced b) refl
     where
       go : (t : Bool) → is_forced b ≡ t → ⊥
@@ -127,38 +133,38 @@ module _ {c : Controller} (s : Sound c) (b : Bio) (taken : first_of (submit_chec
       go false e = true_not_false ((issued_exactly_when e).0 i).affordable.active idle
 
 -- ---- what an answer does to the state
-answered_state : (b : Bio) (c : Controller) → first_of (submit_checks b c) ≡ Accepted → (submitted b c).state ≡ settled (would_be c b) b (entered b.node c)
+answered_state : (b : Bio) (c : Controller) → first_of (submit_checks b c) ≡ Ok tt → (submitted b c).state ≡ settled (would_be c b) b (entered b.node c)
 unfolding submitted submitted_by submission would_be
 answered_state b c e = ap (λ (v : Verdict). (submitted_by v b c).state) e
 
-waits_or_owes : (a : Answer) → (a ≡ Waits) ⊎ (a ≡ OnDebt) → ends_donation a ≡ true
-waits_or_owes a (inl e) = rw e
-waits_or_owes a (inr e) = rw e
+waits_or_owes : (a : Answer) → ◌≡◌ {A = Answered} (Ok a) (Ok Waits) ⊎ ◌≡◌ {A = Answered} (Ok a) (Ok OnDebt) → ends_donation a ≡ true
+waits_or_owes a (inl e) = rw (same_answer a Waits e)
+waits_or_owes a (inr e) = rw (same_answer a OnDebt e)
 
-issued_is_accepted : (b : Bio) (c : Controller) → (submitted b c).answer ≡ Issued → first_of (submit_checks b c) ≡ Accepted
+issued_is_accepted : (b : Bio) (c : Controller) → (submitted b c).answer ≡ Ok Issued → first_of (submit_checks b c) ≡ Ok tt
 unfolding submitted submitted_by
 issued_is_accepted b c = go (first_of (submit_checks b c))
   where
-    go : (v : Verdict) → (submitted_by v b c).answer ≡ Issued → v ≡ Accepted
-    go Accepted i = refl
-    go (Refused x) i = never (cc)
+    go : (v : Verdict) → (submitted_by v b c).answer ≡ Ok Issued → v ≡ Ok tt
+    go (Ok tt) i = refl
+    go (Err x) i = never (cc)
 
 module _ {c : Controller} (s : Sound c) (b : Bio) where
   -- "the budget falls by it": every issued bio is charged at its leaf's share, and nothing else changes but what is noted of it
-  pub an_issued_bio_is_charged : (submitted b c).answer ≡ Issued
+  pub an_issued_bio_is_charged : (submitted b c).answer ≡ Ok Issued
       → (submitted b c).state
       ≡ put_leaf b.node (noted b (charged (cost_in c b) (share_at c b.node) (row_at c b.node))) (queue_at c b.node) c
   unfolding settled applied row_after queue_after
   an_issued_bio_is_charged i =
-      let taken : first_of (submit_checks b c) ≡ Accepted = issued_is_accepted b c i in
-      let would : would_be c b ≡ Issued = sym (not_refused_is_answered b c taken) ∙ i in
+      let taken : first_of (submit_checks b c) ≡ (Ok tt) = issued_is_accepted b c i in
+      let would : would_be c b ≡ Issued = same_answer _ _ (sym (not_refused_is_answered b c taken) ∙ i) in
       let on : has c.active b.node ≡ true = is_true (has c.active b.node) (λ e. inactive_never_issues s b taken e i) in
       answered_state b c taken ∙ rw (would, entered_active b.node c on)
 
-  module _ (taken : first_of (submit_checks b c) ≡ Accepted) where
+  module _ (taken : first_of (submit_checks b c) ≡ Ok tt) where
     -- "If the bio waited or went on debt and the leaf is a donor, the donation ends"
     pub a_donor_that_waits_or_owes_ends_the_donation : has c.donors b.node ≡ true
-        → ((submitted b c).answer ≡ Waits) ⊎ ((submitted b c).answer ≡ OnDebt)
+        → ((submitted b c).answer ≡ Ok Waits) ⊎ ((submitted b c).answer ≡ Ok OnDebt)
         → ((submitted b c).state.donors ≡ no_node) × ((submitted b c).state.shares ≡ base_shares c.tree c.active)
     unfolding settled applied rebased reshared
     a_donor_that_waits_or_owes_ends_the_donation donor ends =

@@ -1,6 +1,6 @@
 -- Request Four: what a flush is refused, what it costs and what it leaves; and that for every other bio all is as it was.
 -- Assumes nothing.
-use Rattle.std.specs.Prelude.{◌≡◌, ◌↔◌, ◌≢◌, Bool, true, false, cond, not, ◌&&◌, List, [], ◌∷◌, ◌++◌, ℕ, ◌<◌, ◌≤◌, ltb}
+use Rattle.std.specs.Prelude.{◌≡◌, ◌↔◌, ◌≢◌, Bool, true, false, cond, not, ◌&&◌, List, [], ◌∷◌, ◌++◌, ℕ, ◌<◌, ◌≤◌, ltb, Err, Ok}
 use Rattle.std.proofs.Math.Path.{refl, ap}
 use Rattle.std.proofs.Common.{sym, ◌∙◌, inl, arith, eq-eqb}
 use Rattle.std.proofs.Math.Logic.{dite}
@@ -24,14 +24,9 @@ use Rattle.rules.specs.declared.cost.Model.{Model}
 use Rattle.rules.specs.declared.cost.Bio.{Bio}
 use Rattle.rules.specs.declared.budget.Row.{Row}
 use Rattle.rules.specs.declared.budget.Controller.{Controller}
-use Rattle.rules.specs.declared.budget.Submitted.{Submitted}
 use Rattle.rules.specs.declared.refusals.Refusal.TheVariants.{NoLeaf, BadBio, TooDear}
-use Rattle.rules.specs.declared.refusals.Verdict.{Verdict}
-use Rattle.rules.specs.declared.refusals.Verdict.TheVariants.{Accepted, Refused}
-use Rattle.rules.specs.declared.refusals.Costing.{Costing}
-use Rattle.rules.specs.declared.refusals.Costing.TheVariants.{Costs, Refused as Uncosted}
 use Rattle.rules.specs.declared.refusals.Answer.{Answer}
-use Rattle.rules.specs.declared.refusals.Answer.TheVariants.{Refused as Declined}
+use Rattle.rules.specs.Results.{Submitted, Verdict, Costing}
 
 -- ---- "it costs one write page, with no base": at every leaf, wherever its last bio ended
 pub a_flush_costs_one_write_page : (m : Model) (row : Row) (b : Bio) → Flush b → cost_of m row b ≡ m.write.page
@@ -45,18 +40,18 @@ a_flush_is_in_range_exactly_when b f =
 
 -- "A read of 0 bytes stays refused"
 pub a_read_of_0_bytes_is_refused : (b : Bio) (c : Controller) → is_leaf c.tree b.node ≡ true → b.bytes ≡ 0 → is_write b ≡ false
-    → (submitted b c).answer ≡ Declined BadBio
+    → (submitted b c).answer ≡ Err BadBio
 a_read_of_0_bytes_is_refused b c leaf none read =
     (refusal_5_exactly_when b c).1 (leaf, λ w. omega (arith, none, (no_other_bio_has_new_bytes b (λ f. true_not_false (eq-eqb _ _ f.write) read) w).fit.0))
 
 pub a_flush_is_refused_5_exactly_when : (b : Bio) (c : Controller) → Flush b
-    → ((submitted b c).answer ≡ Declined BadBio) ↔ ((is_leaf c.tree b.node ≡ true) × (((b.sector ≤ sector_most) × (b.flags < 4)) → ⊥))
+    → ((submitted b c).answer ≡ Err BadBio) ↔ ((is_leaf c.tree b.node ≡ true) × (((b.sector ≤ sector_most) × (b.flags < 4)) → ⊥))
 a_flush_is_refused_5_exactly_when b c f =
     let range = a_flush_is_in_range_exactly_when b f in
     exactly (refusal_5_exactly_when b c) (λ w. (w.0, λ fit. w.1 (range.1 fit)), λ w. (w.0, λ fit. w.1 (range.0 fit)))
 
 -- 6 can't hold for it: one page costs a second at most
-pub a_flush_is_never_refused_6 : {c : Controller} → Sound c → (b : Bio) → Flush b → (submitted b c).answer ≡ Declined TooDear → ⊥
+pub a_flush_is_never_refused_6 : {c : Controller} → Sound c → (b : Bio) → Flush b → (submitted b c).answer ≡ Err TooDear → ⊥
 a_flush_is_never_refused_6 {c} s b f e =
     let model : SoundModel c.model = rw s.model.same (priced_sound s.model.rates s.model.valid) in
     let dear : cost_most < (cost_in c b).0 = ((refusal_6_exactly_when b c).0 e).2 in
@@ -93,7 +88,7 @@ module _ {c : Controller} (s : Sound c) (b : Bio) where
   pub a_flush_changes_no_cost : Flush b → (n : ℕ) (next : Bio) → cost_of c.model (row_at (submitted b c).state n) next ≡ cost_of c.model (row_at c n) next
   a_flush_changes_no_cost f n next = let w = a_flush_leaves_every_end f n in cost_by_the_end c.model next (row_at c n) (row_at (submitted b c).state n) w.0 w.1
 
-  module _ (taken : first_of (submit_checks b c) ≡ Accepted) where
+  module _ (taken : first_of (submit_checks b c) ≡ Ok tt) where
     after_taken : (submitted b c).state ≡ (submission b c).state
     unfolding submitted submitted_by
     after_taken = ap (λ (v : Verdict). (submitted_by v b c).state) taken
@@ -125,8 +120,8 @@ abbrev pub cost_checks_before : Model → Row → Bio → List Check
 cost_checks_before model row b = (not (range_before b) ⇒ BadBio) ∷ (ltb cost_most (cost_before model row b).0 ⇒ TooDear) ∷ []
 
 abbrev costing_by_before : Verdict → Model → Row → Bio → Costing
-costing_by_before Accepted model row b = Costs (cost_before model row b)
-costing_by_before (Refused x) model row b = Uncosted x
+costing_by_before (Ok tt) model row b = Ok (cost_before model row b)
+costing_by_before (Err x) model row b = Err x
 
 abbrev pub costing_before : Model → Row → Bio → Costing
 costing_before model row b = costing_by_before (first_of (cost_checks_before model row b)) model row b
@@ -160,9 +155,9 @@ submit_checks_before b c =
     ++ room_checks (would_be_before c b) (cost_before c.model (row_at c b.node) b) (row_at c b.node) (queue_at c b.node)
 
 abbrev pub submitted_by_before : Verdict → Bio → Controller → Submitted
-submitted_by_before Accepted b c =
-    record { answer = would_be_before c b; state = settled_before (would_be_before c b) b (entered b.node c) }
-submitted_by_before (Refused x) b c = record { answer = Declined x; state = c }
+submitted_by_before (Ok tt) b c =
+    record { answer = Ok (would_be_before c b); state = settled_before (would_be_before c b) b (entered b.node c) }
+submitted_by_before (Err x) b c = record { answer = Err x; state = c }
 
 abbrev pub submitted_before : Bio → Controller → Submitted
 submitted_before b c = submitted_by_before (first_of (submit_checks_before b c)) b c
@@ -184,8 +179,8 @@ module _ (b : Bio) (other : is_flush b ≡ false) where
   the_costing_is_as_before m row = rw (other, the_cost_is_as_before m row) (go (first_of (cost_checks_before m row b)))
     where
       go : (v : Verdict) → costing_by v m row b ≡ costing_by_before v m row b
-      go Accepted = rw (the_cost_is_as_before m row)
-      go (Refused x) = refl
+      go (Ok tt) = rw (the_cost_is_as_before m row)
+      go (Err x) = refl
 
   pub what_is_noted_is_as_before : (r : Row) → noted b r ≡ noted_before b r
   what_is_noted_is_as_before r = rw other
@@ -207,18 +202,18 @@ module _ (b : Bio) (other : is_flush b ≡ false) where
   all_else_is_as_before c = rw (checks c) (go (first_of (submit_checks_before b c)))
     where
       go : (v : Verdict) → submitted_by v b c ≡ submitted_by_before v b c
-      go Accepted = rw (would_be_lem c, settles (would_be_before c b) (entered b.node c))
-      go (Refused x) = refl
+      go (Ok tt) = rw (would_be_lem c, settles (would_be_before c b) (entered b.node c))
+      go (Err x) = refl
 
 -- so for every bio that the old rules accepted, the new cost, end and answer are the old ones
-pub what_was_accepted_is_as_before : (b : Bio) (c : Controller) → first_of (submit_checks_before b c) ≡ Accepted
+pub what_was_accepted_is_as_before : (b : Bio) (c : Controller) → first_of (submit_checks_before b c) ≡ Ok tt
     → (cost_in c b ≡ cost_before c.model (row_at c b.node) b) × ((r : Row) → noted b r ≡ noted_before b r) × (submitted b c ≡ submitted_before b c)
 what_was_accepted_is_as_before b c e =
     let other = what_was_in_range_is_no_flush b (not-false (range_before b) ((accepted_exactly_when (submit_checks_before b c)).0 e).1.0) in
     (the_cost_is_as_before b other c.model (row_at c b.node), what_is_noted_is_as_before b other, all_else_is_as_before b other c)
 
 -- and what is accepted beyond them is a flush
-pub only_flushes_are_new : (b : Bio) (c : Controller) → first_of (submit_checks b c) ≡ Accepted
-    → (first_of (submit_checks_before b c) ≡ Accepted → ⊥) → Flush b
+pub only_flushes_are_new : (b : Bio) (c : Controller) → first_of (submit_checks b c) ≡ Ok tt
+    → (first_of (submit_checks_before b c) ≡ Ok tt → ⊥) → Flush b
 only_flushes_are_new b c taken was =
     (flush_exactly_when b).0 (is_true (is_flush b) (λ other. was (ap first_of (sym (checks b other c)) ∙ taken)))

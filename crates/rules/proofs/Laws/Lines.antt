@@ -10,7 +10,7 @@ use Rattle.rules.specs.Refusals.{fault_number, fault_node, number, named}
 use Rattle.rules.specs.Replay.{digits_in, digits, numbers, line, refusal_line, release_lines, share_lines, leaf_line, share_lines_to, share_lines_of}
 use Rattle.rules.specs.declared.budget.Controller.{Controller}
 use Rattle.rules.specs.declared.tree.Fault.{Fault}
-use Rattle.rules.specs.declared.tree.Fault.TheVariants.{Sound, Count, Parent, Weight, Level}
+use Rattle.rules.specs.declared.tree.Fault.TheVariants.{Count, Parent, Weight, Level}
 use Rattle.rules.specs.declared.refusals.Refusal.{Refusal}
 use Rattle.rules.specs.declared.refusals.Refusal.TheVariants.{BadTree, ThinTree, BadRate, NoLeaf, BadBio, TooDear, QueueFull, DebtFull, TimeBack, TimeFar, ClockFull, PlanDue, FewPlaces, NothingPassed, BadVrate, UnknownKind, CutShort, WrongPhase, NotBelowRoot, ShortBuffer}
 
@@ -129,7 +129,6 @@ names_a_node_or_nothing NotBelowRoot = inr refl
 names_a_node_or_nothing ShortBuffer = inr refl
 
 fault_number_range : (f : Fault) → (fault_number f < 100) × (fault_number f ≡ 1 → ⊥)
-fault_number_range Sound = (omega arith, λ e. omega arith)
 fault_number_range Count = (omega arith, λ e. omega arith)
 fault_number_range (Parent n) = (omega arith, λ e. omega arith)
 fault_number_range (Weight n) = (omega arith, λ e. omega arith)

@@ -1,6 +1,6 @@
 -- The nodes that a trace has given so far: each was without fault when it came and stays so, and a faulty record names the next.
 -- Assumes nothing.
-use Rattle.std.specs.Prelude.{◌≡◌}
+use Rattle.std.specs.Prelude.{◌≡◌, Err, Ok}
 use Rattle.std.proofs.Math.Path.{refl, ap}
 use Rattle.std.proofs.Common.{◌∙◌, eq-or-lt_of_le, le-leb}
 use Rattle.std.proofs.Math.Logic.{⊎_elim}
@@ -19,14 +19,12 @@ use Rattle.rules.proofs.Laws.Refused.{start_names}
 use Rattle.rules.proofs.Laws.Faults.{Says, TreeSays, NewestSays, a_node_record_names}
 use Rattle.rules.specs.declared.tree.Tree.{Tree}
 use Rattle.rules.specs.declared.tree.Fault.{Fault}
-use Rattle.rules.specs.declared.tree.Fault.TheVariants.{Sound, Count, Parent, Weight, Level}
+use Rattle.rules.specs.declared.tree.Fault.TheVariants.{Count, Parent, Weight, Level}
 use Rattle.rules.specs.declared.refusals.Refusal.TheVariants.{BadTree}
-use Rattle.rules.specs.declared.refusals.Verdict.{Verdict}
-use Rattle.rules.specs.declared.refusals.Verdict.TheVariants.{Accepted, Refused}
 use Rattle.rules.specs.declared.trace.Record.{Record}
 use Rattle.rules.specs.declared.trace.Record.TheVariants.{Node, Model as ModelOf, Start, Bio as BioOf, Tick, Plan, Vrate, Weight as WeightOf}
-use Rattle.rules.specs.declared.trace.Read.{Read}
 use Rattle.rules.specs.declared.replay.Replay.{Replay}
+use Rattle.rules.specs.Results.{Verdict, Read}
 
 -- ---- a node more changes nothing of those before it
 module _ (p w : ℕ) (t : Tree) where
@@ -64,7 +62,7 @@ module _ (p w : ℕ) (t : Tree) where
           shallow = rw (level_stays (λ j b m. sound.up j b (omega arith)) k l) (sound.shallow k a inside);
         }
 
-    grown_sound : first_of (node_checks (grown p w t)) ≡ Accepted → SoundTree (grown p w t)
+    grown_sound : first_of (node_checks (grown p w t)) ≡ Ok tt → SoundTree (grown p w t)
     unfolding last
     grown_sound e =
         let newest = accepted_newest (grown p w t) e in
@@ -80,7 +78,7 @@ unfolding last
 beginning_nodes = sound_from_nodes beginning.tree (omega arith) (λ n a b. absurd (omega arith))
 
 -- where every node before the newest is without fault, the newest one's is the first
-newest_is_first : (t : Tree) (m : ℕ) → last t ≡ suc m → nodes_least ≤ t.count → fault_to t m ≡ Sound → newest_fault t ≡ tree_fault t
+newest_is_first : (t : Tree) (m : ℕ) → last t ≡ suc m → nodes_least ≤ t.count → fault_to t m ≡ Ok tt → newest_fault t ≡ tree_fault t
 unfolding newest_fault tree_fault count_in_range fault_to
 newest_is_first t m e least before = rw (e, le-leb nodes_least t.count least, before)
 
@@ -90,18 +88,18 @@ module _ (s : Replay) (h : Playing s) (sound : SoundTree s.tree) where
   record_keeps_nodes (Node p w) = go (first_of (node_checks (grown p w s.tree))) refl
     where
       go : (v : Verdict) → first_of (node_checks (grown p w s.tree)) ≡ v → SoundTree (node_step v (grown p w s.tree) s).replay.tree
-      go Accepted e = grown_sound p w s.tree h.least sound e
-      go (Refused x) e = sound
+      go (Ok tt) e = grown_sound p w s.tree h.least sound e
+      go (Err x) e = sound
   record_keeps_nodes (ModelOf r) = go (first_of (rate_checks r))
     where
       go : (v : Verdict) → SoundTree (model_step v r s).replay.tree
-      go Accepted = sound
-      go (Refused x) = sound
+      go (Ok tt) = sound
+      go (Err x) = sound
   record_keeps_nodes (Start time) = go (started s.tree s.rates time).answer
     where
       go : (v : Verdict) → SoundTree (start_step v (started s.tree s.rates time).state s).replay.tree
-      go Accepted = sound
-      go (Refused x) = sound
+      go (Ok tt) = sound
+      go (Err x) = sound
   record_keeps_nodes (BioOf b) = sound
   record_keeps_nodes (Tick time) = sound
   record_keeps_nodes Plan = sound
@@ -113,7 +111,7 @@ module _ (s : Replay) (h : Playing s) (sound : SoundTree s.tree) where
 
   -- ---- a node record that is refused for its node: that is the next number, every node before it is without fault, and the fault
   -- is the first of its own
-  pub a_faulty_record_names_its_node : (p w : ℕ) (f : Fault) → first_of (node_checks (grown p w s.tree)) ≡ Refused (BadTree f) → (f ≡ Count → ⊥)
+  pub a_faulty_record_names_its_node : (p w : ℕ) (f : Fault) → first_of (node_checks (grown p w s.tree)) ≡ Err (BadTree f) → (f ≡ Count → ⊥)
       → (fault_node f ≡ s.tree.count) × ((k : ℕ) → 0 < k → k < fault_node f → SoundNode (grown p w s.tree) k) × Says (grown p w s.tree) (fault_node f) f
   unfolding last
   a_faulty_record_names_its_node p w f e other =
@@ -123,7 +121,6 @@ module _ (s : Replay) (h : Playing s) (sound : SoundTree s.tree) where
     where
       newest_says : (g : Fault) → (g ≡ Count → ⊥) → NewestSays (grown p w s.tree) g
           → (fault_node g ≡ s.tree.count + 1 - 1) × Says (grown p w s.tree) (s.tree.count + 1 - 1) g
-      newest_says Sound n q = absurd q
       newest_says Count n q = absurd (n refl)
       newest_says (Parent k) n q = (q.1.0, q.1)
       newest_says (Weight k) n q = (q.1.0, q.1)
@@ -138,11 +135,10 @@ module _ (s : Replay) (h : Playing s) (sound : SoundTree s.tree) where
       (sound_nodes (grown p w s.tree) (s.tree.count - 1) (λ k a l. node_stays_sound p w s.tree h.least sound k a (most k l)))
 
   -- ".. and start for too few nodes, then for 2": the nodes were judged as they came
-  pub a_trace's_start_names_no_node : (time : ℕ) (f : Fault) → (started s.tree s.rates time).answer ≡ Refused (BadTree f) → f ≡ Count
+  pub a_trace's_start_names_no_node : (time : ℕ) (f : Fault) → (started s.tree s.rates time).answer ≡ Err (BadTree f) → f ≡ Count
   a_trace's_start_names_no_node time f e = go f ((start_names s.tree s.rates time f).0 e)
     where
       go : (g : Fault) → TreeSays s.tree g → g ≡ Count
-      go Sound q = absurd q
       go Count q = refl
       go (Parent n) q = absurd (omega (arith, q.2.1, sound.up n q.1.below q.1.there))
       go (Weight n) q = absurd (q.2.2 (sound.light n q.1.below q.1.there, sound.heavy n q.1.below q.1.there))

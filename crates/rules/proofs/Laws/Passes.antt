@@ -1,6 +1,6 @@
 -- What an accepted call has passed: each of its checks, as a fact on numbers.
 -- Assumes nothing.
-use Rattle.std.specs.Prelude.{◌≡◌, refl, Bool, true, false, cond, ℕ, ◌≤◌}
+use Rattle.std.specs.Prelude.{◌≡◌, refl, Bool, true, false, cond, ℕ, ◌≤◌, Err, Ok}
 use Rattle.std.proofs.Common.{ltb-false}
 use Rattle.std.proofs.lemmas.Bool.{not-false}
 use Rattle.rules.specs.Numbers.{vrate_least, vrate_most}
@@ -13,20 +13,17 @@ use Rattle.rules.proofs.Laws.TreeVerdicts.{sound_when}
 use Rattle.rules.proofs.Laws.Bools.{never, between}
 use Rattle.rules.specs.declared.cost.Rates.{Rates}
 use Rattle.rules.specs.declared.tree.Tree.{Tree}
-use Rattle.rules.specs.declared.tree.Fault.TheVariants.{Sound}
 use Rattle.rules.specs.declared.budget.Controller.{Controller}
-use Rattle.rules.specs.declared.budget.Outcome.{Outcome}
 use Rattle.rules.specs.declared.refusals.Refusal.{Refusal}
-use Rattle.rules.specs.declared.refusals.Verdict.{Verdict}
-use Rattle.rules.specs.declared.refusals.Verdict.TheVariants.{Accepted, Refused}
+use Rattle.rules.specs.Results.{Judged, Verdict}
 
 -- a check that would have refused did not hold
-pub check_passed : (b : Bool) (x : Refusal) (v : Verdict) → cond b (Refused x) v ≡ Accepted → (b ≡ false) × (v ≡ Accepted)
+pub check_passed : (b : Bool) (x : Refusal) (v : Verdict) → cond b (Err x) v ≡ Ok tt → (b ≡ false) × (v ≡ Ok tt)
 check_passed true x v e = never (cc)
 check_passed false x v e = (refl, e)
 
 -- ---- a tick
-pub tick_passes : (time places : ℕ) (c : Controller) → first_of (tick_checks time places c) ≡ Accepted → TickPasses time places c
+pub tick_passes : (time places : ℕ) (c : Controller) → first_of (tick_checks time places c) ≡ Ok tt → TickPasses time places c
 unfolding tick_checks
 tick_passes time places c e =
     let a = check_passed _ _ _ e in
@@ -43,7 +40,7 @@ tick_passes time places c e =
     }
 
 -- ---- vrate
-pub vrate_passes : (v : ℕ) → first_of (vrate_checks v) ≡ Accepted → (vrate_least ≤ v) × (v ≤ vrate_most)
+pub vrate_passes : (v : ℕ) → first_of (vrate_checks v) ≡ Ok tt → (vrate_least ≤ v) × (v ≤ vrate_most)
 unfolding vrate_checks
 vrate_passes v e = (between vrate_least v vrate_most).0 (not-false _ (check_passed _ _ _ e).0)
 
@@ -53,7 +50,7 @@ pub record WeightPasses (n w : ℕ) (t : Tree) : Type 0 where
   pub range : weight_in_range w ≡ true
   pub thick : is_thin (with_weight n w t) ≡ false
 
-pub weight_passes : (n w : ℕ) (t : Tree) → first_of (weight_checks n w t) ≡ Accepted → WeightPasses n w t
+pub weight_passes : (n w : ℕ) (t : Tree) → first_of (weight_checks n w t) ≡ Ok tt → WeightPasses n w t
 unfolding weight_checks
 weight_passes n w t e =
     let a = check_passed _ _ _ e in
@@ -62,11 +59,11 @@ weight_passes n w t e =
 
 -- ---- start
 pub record StartPasses (t : Tree) (r : Rates) : Type 0 where
-  pub tree : tree_fault t ≡ Sound
+  pub tree : tree_fault t ≡ Ok tt
   pub thick : is_thin t ≡ false
   pub rates : rates_in_range r ≡ true
 
-pub start_passes : (t : Tree) (r : Rates) → first_of (start_checks t r) ≡ Accepted → StartPasses t r
+pub start_passes : (t : Tree) (r : Rates) → first_of (start_checks t r) ≡ Ok tt → StartPasses t r
 unfolding start_checks tree_checks rate_checks
 start_passes t r e =
     let a = check_passed _ _ _ e in
@@ -75,10 +72,10 @@ start_passes t r e =
     record { tree = sound_when (tree_fault t) a.0; thick = b.0; rates = not-false _ d.0 }
 
 -- ---- of a call that answers a verdict, the answer is what its checks give
-by_verdict : (by : Verdict → Outcome) → (by Accepted).answer ≡ Accepted → ((x : Refusal) → (by (Refused x)).answer ≡ Refused x)
+by_verdict : (by : Verdict → Judged) → (by (Ok tt)).answer ≡ Ok tt → ((x : Refusal) → (by (Err x)).answer ≡ Err x)
     → (v : Verdict) → (by v).answer ≡ v
-by_verdict by a r Accepted = a
-by_verdict by a r (Refused x) = r x
+by_verdict by a r (Ok tt) = a
+by_verdict by a r (Err x) = r x
 
 pub start_answers : (t : Tree) (r : Rates) (time : ℕ) → (started t r time).answer ≡ first_of (start_checks t r)
 unfolding started started_by

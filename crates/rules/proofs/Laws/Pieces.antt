@@ -1,7 +1,7 @@
 -- What is read in a piece of a trace is read in the whole: bytes behind it change nothing of a whole record, and bytes dropped
 -- before it move its place alone.
 -- Assumes nothing.
-use Rattle.std.specs.Prelude.{◌≡◌, refl, false, List, [], ◌∷◌, ◌++◌, get_or, drop}
+use Rattle.std.specs.Prelude.{◌≡◌, refl, false, List, [], ◌∷◌, ◌++◌, get_or, drop, Err, None, Ok, Some}
 use Rattle.std.proofs.Math.Path.{sym}
 use Rattle.std.proofs.Common.{◌∙◌, length-append}
 use Prim.Native.Nat.{ℕ, ◌+◌, ◌-◌, ◌≤◌}
@@ -14,8 +14,7 @@ use Rattle.rules.specs.Chunks.{is_cut}
 use Rattle.rules.proofs.Laws.Bools.{true_not_false}
 use Rattle.rules.proofs.Laws.Trace.{Reading, each_answer, beyond_is_cut, end_at_the_end, unknown_is_refused, short_is_cut, whole_is_found}
 use Rattle.rules.proofs.Laws.Trace.Reading.{beyond, ended, unknown, cut, whole}
-use Rattle.rules.specs.declared.trace.Read.{Read}
-use Rattle.rules.specs.declared.trace.Read.TheVariants.{Found, End, Refused as Unread}
+use Rattle.rules.specs.Results.{Read, found}
 
 -- ---- bytes behind it
 fields_stay : (ws bytes later : List ℕ) → total ws ≤ length bytes → fields_from ws (bytes ++ later) ≡ fields_from ws bytes
@@ -47,9 +46,9 @@ same_with_more here later at c = stays_read later (each_answer here at) c
 
 -- ---- bytes dropped before it: a record's end moves, and nothing else
 unfoldable pub shifted : ℕ → Read → Read
-shifted k (Found r next) = Found r (k + next)
-shifted k End = End
-shifted k (Unread x) = Unread x
+shifted k (Ok (Some f)) = found f.item (k + f.next)
+shifted k (Ok None) = Ok None
+shifted k (Err x) = Err x
 
 module _ (trace : List ℕ) (k : ℕ) (h : k ≤ length trace) where
   shifts_read : {at : ℕ} {read : Read} → Reading (drop k trace) at read → read_at trace (k + at) ≡ shifted k read

@@ -1,6 +1,6 @@
 -- A plan: it keeps the invariant, adds nothing to what is saved, and forgives exactly what the rules say.
 -- Assumes nothing.
-use Rattle.std.specs.Prelude.{◌≡◌, refl, Bool, ◌&&◌, ◌||◌, List, ◌↔◌, ℕ, ◌+◌, ◌-◌, ◌*◌, ◌≤◌, ◌<◌, length, get_or}
+use Rattle.std.specs.Prelude.{◌≡◌, refl, Bool, ◌&&◌, ◌||◌, List, ◌↔◌, ℕ, ◌+◌, ◌-◌, ◌*◌, ◌≤◌, ◌<◌, length, get_or, Err, Ok}
 use Rattle.std.proofs.Math.Path.{ap}
 use Rattle.std.proofs.Common.{◌∙◌, ⊎_elim, mul-le-mul_right, eq-zero-or-pos}
 use Rattle.std.proofs.Math.Bool.{true, false, cond, not}
@@ -29,8 +29,7 @@ use Rattle.rules.proofs.Laws.Resharing.{set_stranger, reshared_row, resharing_sa
 use Rattle.rules.specs.declared.budget.Row.{Row}
 use Rattle.rules.specs.declared.budget.Queue.{Queue}
 use Rattle.rules.specs.declared.budget.Controller.{Controller}
-use Rattle.rules.specs.declared.refusals.Verdict.{Verdict}
-use Rattle.rules.specs.declared.refusals.Verdict.TheVariants.{Accepted, Refused}
+use Rattle.rules.specs.Results.{Verdict}
 
 -- ---- steps 1, 2 and 5 on one row
 abbrev closed_row : Bool → Bool → Row → Row
@@ -296,8 +295,8 @@ module _ {c : Controller} (s : Sound c) where
   planned_keeps = go (first_of (plan_checks c))
     where
       go : (v : Verdict) → Sound (planned_by v c).state
-      go Accepted = plan_keeps
-      go (Refused x) = s
+      go (Ok tt) = plan_keeps
+      go (Err x) = s
 
   -- ---- what a plan leaves of each leaf
   plan_row : (n : ℕ)
@@ -329,8 +328,8 @@ module _ {c : Controller} (s : Sound c) where
   planned_saves_nothing = go (first_of (plan_checks c))
     where
       go : (v : Verdict) → saved (planned_by v c).state ≤ saved c
-      go Accepted = plan_saves_nothing
-      go (Refused x) = omega arith
+      go (Ok tt) = plan_saves_nothing
+      go (Err x) = omega arith
 
   pub plan_flow : charged Call.plan c * whole + saved (after Call.plan c) ≤ saved c + generated Call.plan c * whole
   unfolding charged issued released repaid generated
@@ -343,16 +342,16 @@ module _ {c : Controller} (s : Sound c) where
       go : (v : Verdict)
           → waiting (planned_by v c).state n + owed (planned_by v c).state n + if_accepted v (forgiveness (quiet_in c) (row_at c n).debt).0
           ≡ waiting c n + owed c n
-      go Accepted = rw (plan_keeps_queues n) (omega (arith, plan_debt n, forgiven_within_debt (quiet_in c) (row_at c n)))
-      go (Refused x) = omega arith
+      go (Ok tt) = rw (plan_keeps_queues n) (omega (arith, plan_debt n, forgiven_within_debt (quiet_in c) (row_at c n)))
+      go (Err x) = omega arith
 
   -- ---- demand 2: what is forgiven, and who goes inactive
-  pub an_accepted_plan_plans : first_of (plan_checks c) ≡ Accepted → (planned c).state ≡ plan c
+  pub an_accepted_plan_plans : first_of (plan_checks c) ≡ Ok tt → (planned c).state ≡ plan c
   unfolding planned planned_by
   an_accepted_plan_plans e = ap (λ (v : Verdict). (planned_by v c).state) e
 
   -- "If twice the usage of all leaves is below E": then time has passed, and the plan is not refused
-  quiet_is_accepted : 2 * (usage_all c).0 < c.clock.since.0 → first_of (plan_checks c) ≡ Accepted
+  quiet_is_accepted : 2 * (usage_all c).0 < c.clock.since.0 → first_of (plan_checks c) ≡ Ok tt
   unfolding plan_checks
   quiet_is_accepted h = rw (ne_eqb c.clock.since.0 0 (λ z. omega arith))
 
@@ -376,8 +375,8 @@ module _ {c : Controller} (s : Sound c) where
       go : (v : Verdict)
           → (if_accepted v (cond (ltb (2 * (usage_all c).0) c.clock.since.0) (floor_of (row_at c n).debt.0 2) 0) ≡ 0)
           × ((row_at (planned_by v c).state n).debt.0 ≡ (row_at c n).debt.0)
-      go Accepted = (rw busy, omega (arith, rw busy at (plan_debt n)))
-      go (Refused x) = (refl, refl)
+      go (Ok tt) = (rw busy, omega (arith, rw busy at (plan_debt n)))
+      go (Err x) = (refl, refl)
 
   pub no_plan_clears_a_debt : (n : ℕ) → 0 < (row_at c n).debt.0 → 0 < (row_at (plan c) n).debt.0
   no_plan_clears_a_debt n p = omega (arith, plan_debt n, debt_never_cleared (quiet_in c) (row_at c n) p)

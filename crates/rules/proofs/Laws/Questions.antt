@@ -1,7 +1,7 @@
 -- Request Six in a customer's words: the question is answered as the submission would be, at every node; what it is answered at
 -- an active leaf and at any other node; and that nothing decides it but what is the leaf's own.
 -- Assumes nothing.
-use Rattle.std.specs.Prelude.{◌≡◌, Bool, not, ◌∷◌, ℕ, ◌+◌, ◌*◌, ◌≤◌}
+use Rattle.std.specs.Prelude.{◌≡◌, Bool, not, ◌∷◌, ℕ, ◌+◌, ◌*◌, ◌≤◌, Err, Ok}
 use Rattle.std.proofs.Math.Path.{refl, ap}
 use Rattle.std.proofs.Common.{sym, ◌∙◌, arith}
 use Rattle.std.proofs.Math.Bool.{true, false}
@@ -11,7 +11,7 @@ use Rattle.rules.specs.Words.{has}
 use Rattle.rules.specs.Cost.{is_forced, bio_in_range}
 use Rattle.rules.specs.Tree.{is_leaf}
 use Rattle.rules.specs.Budget.{row_at, queue_at, share_at, length_only, answer_to, answer_in, submission, would_be}
-use Rattle.rules.specs.Refusals.{◌⇒◌, first_of, cost_checks, room_checks, submit_checks, answer_paper, answer_values, paper_of}
+use Rattle.rules.specs.Refusals.{◌⇒◌, first_of, cost_checks, room_checks, submit_checks, answer_paper, paper_of, letters_of}
 use Rattle.rules.specs.Entries.{costing, costing_by, submitted_by, submitted}
 use Rattle.rules.specs.Question.{own_at, unless_refused, when_active, when_inactive, ruling_by, ruling, asked, question}
 use Rattle.rules.specs.Invariant.{Sound}
@@ -34,13 +34,10 @@ use Rattle.rules.specs.declared.budget.Own.{Own}
 use Rattle.rules.specs.declared.budget.Controller.{Controller}
 use Rattle.rules.specs.declared.refusals.Refusal.{Refusal}
 use Rattle.rules.specs.declared.refusals.Refusal.TheVariants.{NoLeaf}
-use Rattle.rules.specs.declared.refusals.Verdict.{Verdict}
-use Rattle.rules.specs.declared.refusals.Verdict.TheVariants.{Accepted, Refused}
-use Rattle.rules.specs.declared.refusals.Costing.{Costing}
-use Rattle.rules.specs.declared.refusals.Costing.TheVariants.{Costs, Refused as Uncosted}
 use Rattle.rules.specs.declared.refusals.Ruling.{Ruling}
 use Rattle.rules.specs.declared.refusals.Answer.{Answer}
-use Rattle.rules.specs.declared.refusals.Answer.TheVariants.{Issued, Waits, OnDebt, Refused as Declined}
+use Rattle.rules.specs.declared.refusals.Answer.TheVariants.{Issued, Waits, OnDebt}
+use Rattle.rules.specs.Results.{Verdict, Costing}
 
 -- ---- ".. looks only at that leaf's own row and the model, not at the other leaves"
 -- two states that have the same of node n: all else may differ, the trees, the clocks, the donors and every other leaf's books
@@ -59,34 +56,33 @@ pub nothing_else_decides : (b : Bio) {c d : Controller} → Alike b.node c d →
 nothing_else_decides b w = ap (asked b) (own_of_alike w)
 
 -- ---- a bio that is refused 5 or 6, and one that is not
-pub uncosted_refuses : (model : Model) (row : Row) (b : Bio) (x : Refusal) → costing model row b ≡ Uncosted x
-    → first_of (cost_checks model row b) ≡ Refused x
+pub uncosted_refuses : (model : Model) (row : Row) (b : Bio) (x : Refusal) → costing model row b ≡ Err x
+    → first_of (cost_checks model row b) ≡ Err x
 unfolding costing costing_by
 uncosted_refuses model row b x = go (first_of (cost_checks model row b))
   where
-    go : (v : Verdict) → costing_by v model row b ≡ Uncosted x → v ≡ Refused x
-    go Accepted e = never (cc)
-    go (Refused y) e = cc
+    go : (v : Verdict) → costing_by v model row b ≡ Err x → v ≡ Err x
+    go (Ok tt) e = never (cc)
+    go (Err y) e = cc
 
-pub costed_passes : (model : Model) (row : Row) (b : Bio) (cost : Abs) → costing model row b ≡ Costs cost → first_of (cost_checks model row b) ≡ Accepted
+pub costed_passes : (model : Model) (row : Row) (b : Bio) (cost : Abs) → costing model row b ≡ Ok cost → first_of (cost_checks model row b) ≡ Ok tt
 unfolding costing costing_by
 costed_passes model row b cost = go (first_of (cost_checks model row b))
   where
-    go : (v : Verdict) → costing_by v model row b ≡ Costs cost → v ≡ Accepted
-    go Accepted e = refl
-    go (Refused y) e = never (cc)
+    go : (v : Verdict) → costing_by v model row b ≡ Ok cost → v ≡ Ok tt
+    go (Ok tt) e = refl
+    go (Err y) e = never (cc)
 
 -- what owes nothing and waits for nothing has room for any answer
 pub idle_has_room : (a : Answer) (cost : Abs) (row : Row) (q : Queue) → row.debt.0 ≡ 0 → q.len ≡ 0 → cost.0 ≤ cost_most
-    → first_of (room_checks a cost row q) ≡ Accepted
+    → first_of (room_checks a cost row q) ≡ Ok tt
 unfolding room_checks
 idle_has_room Issued cost row q d l k = refl
 idle_has_room Waits cost row q d l k = rw (lt-leb queue_room q.len (omega arith))
 idle_has_room OnDebt cost row q d l k = rw (le-ltb debt_most (row.debt.0 + cost.0) (omega arith))
-idle_has_room (Declined x) cost row q d l k = refl
 
 -- a bio that is found to cost something: it is in range, and the cost is the rule's
-module _ (b : Bio) (c : Controller) (cost : Abs) (e : costing c.model (row_at c b.node) b ≡ Costs cost) where
+module _ (b : Bio) (c : Controller) (cost : Abs) (e : costing c.model (row_at c b.node) b ≡ Ok cost) where
   pub costed_in_range : bio_in_range b ≡ true
   costed_in_range = (bio_in_range_lem b).1 ((costing_costs_exactly_when c.model (row_at c b.node) b cost).0 e).0.0
 
@@ -107,17 +103,17 @@ unfolding submitted submitted_by submission unless_refused
 answered_by b c = go (first_of (submit_checks b c))
   where
     go : (v : Verdict) → (submitted_by v b c).answer ≡ unless_refused v (would_be c b)
-    go Accepted = refl
-    go (Refused x) = refl
+    go (Ok tt) = refl
+    go (Err x) = refl
 
 module _ {c : Controller} (s : Sound c) (b : Bio) where
   -- an inactive leaf has saved nothing: what is not refused waits or goes on debt
-  inactive_answers : has c.active b.node ≡ false → first_of (submit_checks b c) ≡ Accepted
-      → (submitted b c).answer ≡ when_inactive (is_forced b)
+  inactive_answers : has c.active b.node ≡ false → first_of (submit_checks b c) ≡ Ok tt
+      → (submitted b c).answer ≡ Ok (when_inactive (is_forced b))
   unfolding when_inactive
   inactive_answers idle taken = go (is_forced b) refl
     where
-      go : (t : Bool) → is_forced b ≡ t → (submitted b c).answer ≡ when_inactive t
+      go : (t : Bool) → is_forced b ≡ t → (submitted b c).answer ≡ Ok (when_inactive t)
       go true e = (on_debt_exactly_when s b taken e).1 (λ w. true_not_false w.active idle)
       go false e = (waits_exactly_when s b taken e).1 (λ w. true_not_false w.affordable.active idle)
 
@@ -134,7 +130,7 @@ module _ {c : Controller} (s : Sound c) (b : Bio) where
     unfolding asked
     by_costing e = ap (λ (r : Ruling). r.answer) (ruled_by b (own_at b.node c) (own_leaf ∙ leaf) e)
 
-    uncosted_asked : (x : Refusal) → costing c.model (row_at c b.node) b ≡ Uncosted x → question b c ≡ (submitted b c).answer
+    uncosted_asked : (x : Refusal) → costing c.model (row_at c b.node) b ≡ Err x → question b c ≡ (submitted b c).answer
     unfolding ruling_by submitted submitted_by submit_checks
     uncosted_asked x e =
         by_costing e
@@ -142,7 +138,7 @@ module _ {c : Controller} (s : Sound c) (b : Bio) where
         (ap (λ (v : Verdict). (submitted_by v b c).answer)
         (sym (first_refused (cost_checks c.model (row_at c b.node) b) _ x (uncosted_refuses c.model (row_at c b.node) b x e))))
 
-    module _ (cost : Abs) (e : costing c.model (row_at c b.node) b ≡ Costs cost) where
+    module _ (cost : Abs) (e : costing c.model (row_at c b.node) b ≡ Ok cost) where
       -- only 7 and 8 are left
       pub room_is_left : first_of (submit_checks b c) ≡ first_of (room_checks (would_be c b) (cost_in c b) (row_at c b.node) (queue_at c b.node))
       unfolding submit_checks cost_checks
@@ -171,16 +167,16 @@ module _ {c : Controller} (s : Sound c) (b : Bio) where
     where
       judged : is_leaf c.tree b.node ≡ true → (k : Costing) → costing c.model (row_at c b.node) b ≡ k
           → (u : Bool) → has c.active b.node ≡ u → question b c ≡ (submitted b c).answer
-      judged l (Costs cost) e true on = active_asked l cost e on
-      judged l (Costs cost) e false off = idle_asked l cost e off
-      judged l (Uncosted x) e u a = uncosted_asked l x e
+      judged l (Ok cost) e true on = active_asked l cost e on
+      judged l (Ok cost) e false off = idle_asked l cost e off
+      judged l (Err x) e u a = uncosted_asked l x e
 
       go : (t : Bool) → is_leaf c.tree b.node ≡ t → question b c ≡ (submitted b c).answer
       go true l = judged l (costing c.model (row_at c b.node) b) refl (has c.active b.node) refl
       go false l = no_leaf_asked l
 
   -- the same as the paper has it: the number of the first check that holds, or the answer
-  pub question_on_paper : answer_paper (question b c) ≡ paper_of (submit_checks b c) (answer_values (would_be c b))
+  pub question_on_paper : answer_paper (question b c) ≡ paper_of (submit_checks b c) (letters_of (would_be c b))
   question_on_paper = ap answer_paper asked_is_answered ∙ submit_on_paper b c refl
 
   -- ".. for an active leaf": the refusal if there is one, and otherwise steps 2 and 3 upon the state as it is
@@ -196,8 +192,8 @@ module _ {c : Controller} (s : Sound c) (b : Bio) where
   any_other_node_is_answered off = asked_is_answered ∙ go (first_of (submit_checks b c)) refl
     where
       go : (v : Verdict) → first_of (submit_checks b c) ≡ v → (submitted b c).answer ≡ unless_refused v (when_inactive (is_forced b))
-      go Accepted e = inactive_answers off e
-      go (Refused x) e = answered_by b c ∙ rw e
+      go (Ok tt) e = inactive_answers off e
+      go (Err x) e = answered_by b c ∙ rw e
 
   -- 7 and 8 can't hold there: 4 to 6 are all that it can be refused
   pub any_other_node_is_refused_4_to_6_alone : has c.active b.node ≡ false
@@ -208,8 +204,8 @@ module _ {c : Controller} (s : Sound c) (b : Bio) where
     where
       costed : is_leaf c.tree b.node ≡ true → (k : Costing) → costing c.model (row_at c b.node) b ≡ k
           → question b c ≡ unless_refused (first_of (cost_checks c.model (row_at c b.node) b)) (when_inactive (is_forced b))
-      costed l (Costs cost) e = by_costing l e ∙ rw (off, costed_passes c.model (row_at c b.node) b cost e)
-      costed l (Uncosted x) e = by_costing l e ∙ rw (uncosted_refuses c.model (row_at c b.node) b x e)
+      costed l (Ok cost) e = by_costing l e ∙ rw (off, costed_passes c.model (row_at c b.node) b cost e)
+      costed l (Err x) e = by_costing l e ∙ rw (uncosted_refuses c.model (row_at c b.node) b x e)
 
       go : (t : Bool) → is_leaf c.tree b.node ≡ t
           → question b c ≡ unless_refused (first_of ((not t ⇒ NoLeaf) ∷ cost_checks c.model (row_at c b.node) b)) (when_inactive (is_forced b))

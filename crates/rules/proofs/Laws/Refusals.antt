@@ -1,14 +1,14 @@
 -- The refusals that each entry can give, by number and in the order of its checks, and what each entry answers on paper: the number
 -- of the first check that holds, 0 where none does, and the values that it then gives.
 -- Assumes nothing.
-use Rattle.std.specs.Prelude.{◌≡◌, refl, Bool, true, false, cond, List, [], ◌∷◌, ℕ, ◌+◌, ◌<◌, ◌≤◌, ltb, length, get_or, drop}
+use Rattle.std.specs.Prelude.{◌≡◌, refl, Bool, true, false, cond, List, [], ◌∷◌, ℕ, ◌+◌, ◌<◌, ◌≤◌, ltb, length, get_or, drop, Err, Ok}
 use Rattle.std.proofs.Common.{ap, ◌∙◌, arith, lt-ltb, le-ltb}
 use Rattle.rules.specs.Cost.{priced, cost_of}
 use Rattle.rules.specs.Budget.{would_be, submission}
 use Rattle.rules.specs.Tick.{growth, releases}
 use Rattle.rules.specs.Trace.{layout, record_bytes, writing, fields_from, behind, read_at}
 use Rattle.rules.specs.Tree.{tree_fault, newest_fault}
-use Rattle.rules.specs.Refusals.{◌⇒◌, fault_number, paper, paper_of, unless, verdict_paper, numbers_of, first_of, verdict_number, answer_values, model_values, answer_paper, count_paper, pricing_paper, costing_paper, read_paper, write_paper, tree_checks, node_checks, rate_checks, start_checks, cost_checks, room_checks, submit_checks, tick_checks, plan_checks, vrate_checks, weight_checks, read_checks, values_at, write_checks}
+use Rattle.rules.specs.Refusals.{◌⇒◌, fault_number, paper, paper_of, unless, verdict_paper, numbers_of, first_of, verdict_number, answer_values, model_values, answer_paper, count_paper, pricing_paper, costing_paper, read_paper, write_paper, tree_checks, node_checks, rate_checks, start_checks, cost_checks, room_checks, submit_checks, tick_checks, plan_checks, vrate_checks, weight_checks, read_checks, values_at, write_checks, fault_in, letters_of}
 use Rattle.rules.specs.Entries.{pricing_by, pricing, tree_verdict, costing_by, costing, started, submitted_by, submitted, ticked_by, ticked, planned, vrated, weighted}
 use Rattle.rules.proofs.Laws.Passes.{start_answers, plan_answers, vrate_answers, weighted_answers}
 use Rattle.rules.proofs.Laws.Answers.{answer_is_no_refusal}
@@ -20,27 +20,16 @@ use Rattle.rules.specs.declared.cost.Bio.{Bio}
 use Rattle.rules.specs.declared.tree.Tree.{Tree}
 use Rattle.rules.specs.declared.budget.Row.{Row}
 use Rattle.rules.specs.declared.budget.Controller.{Controller}
-use Rattle.rules.specs.declared.budget.Outcome.{Outcome}
-use Rattle.rules.specs.declared.budget.Submitted.{Submitted}
-use Rattle.rules.specs.declared.budget.Ticked.{Ticked}
 use Rattle.rules.specs.declared.refusals.Refusal.{Refusal}
 use Rattle.rules.specs.declared.refusals.Refusal.TheVariants.{ShortBuffer}
-use Rattle.rules.specs.declared.refusals.Verdict.{Verdict}
-use Rattle.rules.specs.declared.refusals.Verdict.TheVariants.{Accepted, Refused}
-use Rattle.rules.specs.declared.refusals.Answer.{Answer}
-use Rattle.rules.specs.declared.refusals.Answer.TheVariants.{Issued, Waits, OnDebt, Refused as Declined}
-use Rattle.rules.specs.declared.refusals.Pricing.{Pricing}
-use Rattle.rules.specs.declared.refusals.Costing.{Costing}
 use Rattle.rules.specs.declared.trace.Record.{Record}
-use Rattle.rules.specs.declared.trace.Read.{Read}
-use Rattle.rules.specs.declared.trace.Write.{Write}
-use Rattle.rules.specs.declared.trace.Write.TheVariants.{Wrote, Refused as Unwritten}
+use Rattle.rules.specs.Results.{Judged, Submitted, Ticked, Verdict, Pricing, Costing, Read, Write, Answered}
 
-pub node_refusals : (t : Tree) → numbers_of (node_checks t) ≡ fault_number (newest_fault t) ∷ []
+pub node_refusals : (t : Tree) → numbers_of (node_checks t) ≡ fault_number (fault_in (newest_fault t)) ∷ []
 unfolding node_checks
 node_refusals t = refl
 
-pub start_refusals : (t : Tree) (r : Rates) → numbers_of (start_checks t r) ≡ fault_number (tree_fault t) ∷ 2 ∷ 3 ∷ []
+pub start_refusals : (t : Tree) (r : Rates) → numbers_of (start_checks t r) ≡ fault_number (fault_in (tree_fault t)) ∷ 2 ∷ 3 ∷ []
 unfolding start_checks tree_checks rate_checks
 start_refusals t r = refl
 
@@ -82,8 +71,8 @@ unfolding pricing pricing_by
 price_on_paper rates e = ap pricing_paper e ∙ go (first_of (rate_checks rates))
   where
     go : (v : Verdict) → pricing_paper (pricing_by v rates) ≡ paper (verdict_number v) (unless v (model_values (priced rates)))
-    go Accepted = refl
-    go (Refused x) = refl
+    go (Ok tt) = refl
+    go (Err x) = refl
 
 pub cost_on_paper : (m : Model) (row : Row) (b : Bio) {r : Costing} → r ≡ costing m row b
     → costing_paper r ≡ paper_of (cost_checks m row b) ((cost_of m row b).0 ∷ [])
@@ -91,35 +80,33 @@ unfolding costing costing_by
 cost_on_paper m row b e = ap costing_paper e ∙ go (first_of (cost_checks m row b))
   where
     go : (v : Verdict) → costing_paper (costing_by v m row b) ≡ paper (verdict_number v) (unless v ((cost_of m row b).0 ∷ []))
-    go Accepted = refl
-    go (Refused x) = refl
+    go (Ok tt) = refl
+    go (Err x) = refl
 
 pub check_on_paper : (t : Tree) {r : Verdict} → r ≡ tree_verdict t → verdict_paper r ≡ paper_of (tree_checks t) []
 unfolding tree_verdict
 check_on_paper t e = ap verdict_paper e
 
 -- of a call that answers a verdict, by the outcome of its rule
-verdict_on_paper : {r o : Outcome} {v : Verdict} → o.answer ≡ v → r ≡ o → verdict_paper r.answer ≡ verdict_paper v
-verdict_on_paper i e = ap (λ (o : Outcome). verdict_paper o.answer) e ∙ ap verdict_paper i
+verdict_on_paper : {r o : Judged} {v : Verdict} → o.answer ≡ v → r ≡ o → verdict_paper r.answer ≡ verdict_paper v
+verdict_on_paper i e = ap (λ (o : Judged). verdict_paper o.answer) e ∙ ap verdict_paper i
 
-pub start_on_paper : (t : Tree) (rates : Rates) (time : ℕ) {r : Outcome} → r ≡ started t rates time → verdict_paper r.answer ≡ paper_of (start_checks t rates) []
+pub start_on_paper : (t : Tree) (rates : Rates) (time : ℕ) {r : Judged} → r ≡ started t rates time → verdict_paper r.answer ≡ paper_of (start_checks t rates) []
 start_on_paper t rates time = verdict_on_paper (start_answers t rates time)
 
 -- issued, waits and on debt are no refusals
-no_refusal : (a : Answer) → ((x : Refusal) → a ≡ Declined x → ⊥) → answer_paper a ≡ paper 0 (answer_values a)
-no_refusal Issued h = refl
-no_refusal Waits h = refl
-no_refusal OnDebt h = refl
-no_refusal (Declined x) h = absurd (h x refl)
+no_refusal : (a : Answered) → ((x : Refusal) → a ≡ Err x → ⊥) → answer_paper a ≡ paper 0 (answer_values a)
+no_refusal (Ok a) h = refl
+no_refusal (Err x) h = absurd (h x refl)
 
 pub submit_on_paper : (b : Bio) (c : Controller) {r : Submitted} → r ≡ submitted b c
-    → answer_paper r.answer ≡ paper_of (submit_checks b c) (answer_values (would_be c b))
+    → answer_paper r.answer ≡ paper_of (submit_checks b c) (letters_of (would_be c b))
 unfolding submitted submitted_by submission
 submit_on_paper b c e = ap (λ (o : Submitted). answer_paper o.answer) e ∙ go (first_of (submit_checks b c))
   where
-    go : (v : Verdict) → answer_paper (submitted_by v b c).answer ≡ paper (verdict_number v) (unless v (answer_values (would_be c b)))
-    go Accepted = no_refusal (would_be c b) (answer_is_no_refusal c b)
-    go (Refused x) = refl
+    go : (v : Verdict) → answer_paper (submitted_by v b c).answer ≡ paper (verdict_number v) (unless v (letters_of (would_be c b)))
+    go (Ok tt) = no_refusal (Ok (would_be c b)) (answer_is_no_refusal c b)
+    go (Err x) = refl
 
 pub tick_on_paper : (time : ℕ) (lent : List ℕ) (c : Controller) {r : Ticked} → r ≡ ticked time lent c
     → count_paper r.answer ≡ paper_of (tick_checks time (length lent) c) (length (releases (growth c.clock time) c) ∷ [])
@@ -128,16 +115,16 @@ tick_on_paper time lent c e = ap (λ (o : Ticked). count_paper o.answer) e ∙ g
   where
     go : (v : Verdict) → count_paper (ticked_by v time c).answer
         ≡ paper (verdict_number v) (unless v (length (releases (growth c.clock time) c) ∷ []))
-    go Accepted = refl
-    go (Refused x) = refl
+    go (Ok tt) = refl
+    go (Err x) = refl
 
-pub plan_on_paper : (c : Controller) {r : Outcome} → r ≡ planned c → verdict_paper r.answer ≡ paper_of (plan_checks c) []
+pub plan_on_paper : (c : Controller) {r : Judged} → r ≡ planned c → verdict_paper r.answer ≡ paper_of (plan_checks c) []
 plan_on_paper c = verdict_on_paper (plan_answers c)
 
-pub vrate_on_paper : (v : ℕ) (c : Controller) {r : Outcome} → r ≡ vrated v c → verdict_paper r.answer ≡ paper_of (vrate_checks v) []
+pub vrate_on_paper : (v : ℕ) (c : Controller) {r : Judged} → r ≡ vrated v c → verdict_paper r.answer ≡ paper_of (vrate_checks v) []
 vrate_on_paper v c = verdict_on_paper (vrate_answers v c)
 
-pub weight_on_paper : (n w : ℕ) (c : Controller) {r : Outcome} → r ≡ weighted n w c → verdict_paper r.answer ≡ paper_of (weight_checks n w c.tree) []
+pub weight_on_paper : (n w : ℕ) (c : Controller) {r : Judged} → r ≡ weighted n w c → verdict_paper r.answer ≡ paper_of (weight_checks n w c.tree) []
 weight_on_paper n w c = verdict_on_paper (weighted_answers n w c)
 
 -- ---- a place of a trace, and a lent buffer
@@ -172,7 +159,7 @@ pub write_on_paper : (r : Record) (lent : List ℕ) {w : Write} → w ≡ writin
 unfolding writing write_checks
 write_on_paper r lent e = ap write_paper e ∙ go (ltb (length lent) (length (record_bytes r)))
   where
-    go : (b : Bool) → write_paper (cond b (Unwritten ShortBuffer) (Wrote (length (record_bytes r))))
+    go : (b : Bool) → write_paper (cond b (Err ShortBuffer) (Ok (length (record_bytes r))))
         ≡ paper_of ((b ⇒ ShortBuffer) ∷ []) (length (record_bytes r) ∷ [])
     go true = refl
     go false = refl

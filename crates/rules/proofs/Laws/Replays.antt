@@ -1,13 +1,13 @@
 -- What every replay keeps, from its beginning on and over each record: its nodes have room and climb, and its state is sound.
 -- Assumes nothing.
-use Rattle.std.specs.Prelude.{◌≡◌, refl, Bool, cond, ◌↔◌, List, [], ℕ, ◌-◌, ◌≤◌, ◌<◌, leb, get_or}
+use Rattle.std.specs.Prelude.{◌≡◌, refl, Bool, cond, ◌↔◌, List, [], ℕ, ◌-◌, ◌≤◌, ◌<◌, leb, get_or, Err, None, Ok, Some}
 use Rattle.std.proofs.Common.{sym, ap, ◌∙◌, ⊎_elim, eq-or-lt_of_le, lt_of_not-le, le_of_suc-le-suc, arith, get_or-set_other, leb-true}
 use Rattle.std.proofs.Math.Bool.{true, false}
 use Rattle.std.proofs.Math.Logic.{dite}
 use Rattle.std.proofs.Math.Decide.{dec_lt}
 use Rattle.rules.specs.Numbers.{nodes_most}
 use Rattle.rules.specs.Tree.{last, node_fault, newest_fault, count_in_range, tree_fault}
-use Rattle.rules.specs.Refusals.{Check, number, first_of, node_checks, rate_checks, tree_checks, start_checks}
+use Rattle.rules.specs.Refusals.{Check, number, first_of, node_checks, rate_checks, tree_checks, start_checks, fault_in}
 use Rattle.rules.specs.Entries.{no_tree, slowest, started, started_by, submitted, ticked, planned, set_by}
 use Rattle.rules.specs.Trace.{kind_of}
 use Rattle.rules.specs.Replay.{Step, refusal_line, in_phase, is_stopped, within, stops_at, silent, beginning, grown, all_room, node_step, model_step, start_step, record_step, read_step, stepped}
@@ -26,21 +26,18 @@ use Rattle.rules.proofs.Laws.Ticks.{ticked_keeps}
 use Rattle.rules.proofs.Laws.Plans.{planned_keeps}
 use Rattle.rules.specs.declared.cost.Rates.{Rates}
 use Rattle.rules.specs.declared.tree.Tree.{Tree}
-use Rattle.rules.specs.declared.tree.Fault.TheVariants.{Sound as NoFault, Count}
+use Rattle.rules.specs.declared.tree.Fault.TheVariants.{Count}
 use Rattle.rules.specs.declared.budget.Controller.{Controller}
 use Rattle.rules.specs.declared.refusals.Refusal.{Refusal}
 use Rattle.rules.specs.declared.refusals.Refusal.TheVariants.{WrongPhase}
-use Rattle.rules.specs.declared.refusals.Verdict.{Verdict}
-use Rattle.rules.specs.declared.refusals.Verdict.TheVariants.{Accepted, Refused}
 use Rattle.rules.specs.declared.trace.Record.{Record}
 use Rattle.rules.specs.declared.trace.Record.TheVariants.{Node, Model as ModelOf, Start, Bio as BioOf, Tick, Plan, Vrate, Weight}
-use Rattle.rules.specs.declared.trace.Read.{Read}
-use Rattle.rules.specs.declared.trace.Read.TheVariants.{Found, End, Refused as Unread}
 use Rattle.rules.specs.declared.replay.Phase.{Phase}
 use Rattle.rules.specs.declared.replay.Phase.TheVariants.{Priced, Running, Stopped}
 use Rattle.rules.specs.declared.replay.Replay.{Replay}
 use Rattle.rules.specs.declared.replay.Setting.{Setting}
 use Rattle.rules.specs.declared.replay.Setting.TheVariants.{Vrate as SetVrate, Weight as SetWeight}
+use Rattle.rules.specs.Results.{Verdict, Read, found}
 
 -- ---- the beginning: the root alone, and the state of a refused start
 no_state_yet : Sound beginning.state
@@ -58,11 +55,11 @@ beginning_plays = record {
 
 -- ---- a node more: those before it keep their parents, and an accepted one has a parent before it
 -- what an accepted node record has passed
-pub accepted_newest : (t : Tree) → first_of (node_checks t) ≡ Accepted → (t.count ≤ nodes_most) × SoundNode t (last t)
+pub accepted_newest : (t : Tree) → first_of (node_checks t) ≡ Ok tt → (t.count ≤ nodes_most) × SoundNode t (last t)
 unfolding node_checks newest_fault
 accepted_newest t e = go (leb t.count nodes_most) refl (sound_when (newest_fault t) (check_passed _ _ _ e).0)
   where
-    go : (b : Bool) → leb t.count nodes_most ≡ b → cond b (node_fault t (last t)) Count ≡ NoFault
+    go : (b : Bool) → leb t.count nodes_most ≡ b → cond b (node_fault t (last t)) (Err Count) ≡ Ok tt
         → (t.count ≤ nodes_most) × SoundNode t (last t)
     go true l f = (leb-true t.count nodes_most l, node_sound t (last t) f)
     go false l f = never (cc)
@@ -82,7 +79,7 @@ module _ {s : Replay} (h : Playing s) where
   stop_plays : (x : Refusal) → Playing (stops_at x s).replay
   stop_plays x = state_plays Stopped s.rates s.state h.state
 
-  node_plays : (p w : ℕ) → first_of (node_checks (grown p w s.tree)) ≡ Accepted
+  node_plays : (p w : ℕ) → first_of (node_checks (grown p w s.tree)) ≡ Ok tt
       → Playing (within s.phase (grown p w s.tree) s.rates s.state)
   node_plays p w e =
       let newest = accepted_newest (grown p w s.tree) e in
@@ -101,18 +98,18 @@ module _ {s : Replay} (h : Playing s) where
   node_step_plays : (p w : ℕ) (v : Verdict) → first_of (node_checks (grown p w s.tree)) ≡ v
       → Playing (node_step v (grown p w s.tree) s).replay
   unfolding node_step
-  node_step_plays p w Accepted e = node_plays p w e
-  node_step_plays p w (Refused x) e = stop_plays x
+  node_step_plays p w (Ok tt) e = node_plays p w e
+  node_step_plays p w (Err x) e = stop_plays x
 
   model_step_plays : (r : Rates) (v : Verdict) → Playing (model_step v r s).replay
   unfolding model_step
-  model_step_plays r Accepted = state_plays Priced r s.state h.state
-  model_step_plays r (Refused x) = stop_plays x
+  model_step_plays r (Ok tt) = state_plays Priced r s.state h.state
+  model_step_plays r (Err x) = stop_plays x
 
   start_step_plays : (c : Controller) → Sound c → (v : Verdict) → Playing (start_step v c s).replay
   unfolding start_step
-  start_step_plays c sound Accepted = state_plays Running s.rates c sound
-  start_step_plays c sound (Refused x) = stop_plays x
+  start_step_plays c sound (Ok tt) = state_plays Running s.rates c sound
+  start_step_plays c sound (Err x) = stop_plays x
 
 set_plays : (x : Setting) (s : Replay) → Playing s → Playing (within s.phase s.tree s.rates (set_by x s.state).state)
 set_plays x s h = state_plays h s.phase s.rates (set_by x s.state).state (set_keeps x h.state)
@@ -136,13 +133,13 @@ module _ (P : Replay → Type 0) (s : Replay) (here : P s) (stop : (x : Refusal)
     (each : (r : Record) → P (record_step r s).replay) where
   read_step_keeps : (read : Read) → P (read_step read s).replay
   unfolding read_step
-  read_step_keeps (Found r next) = go (in_phase s.phase (kind_of r))
+  read_step_keeps (Ok (Some f)) = go (in_phase s.phase (kind_of f.item))
     where
-      go : (b : Bool) → P (cond b (record_step r s) (stops_at WrongPhase s)).replay
-      go true = each r
+      go : (b : Bool) → P (cond b (record_step f.item s) (stops_at WrongPhase s)).replay
+      go true = each f.item
       go false = stop WrongPhase
-  read_step_keeps End = here
-  read_step_keeps (Unread x) = stop x
+  read_step_keeps (Ok None) = here
+  read_step_keeps (Err x) = stop x
 
   pub step_keeps : (read : Read) → P (stepped read s).replay
   unfolding stepped
@@ -173,15 +170,15 @@ calls_go_on (Weight n w) s h = refl
 -- ---- ".. first checked for 16, 17 and 18": what cannot be read stops the replay, then a record out of its phase; any other
 -- is carried out
 module _ (s : Replay) (goes : is_stopped s.phase ≡ false) where
-  pub unread_stops : (x : Refusal) → stepped (Unread x) s ≡ stops_at x s
+  pub unread_stops : (x : Refusal) → stepped (Err x) s ≡ stops_at x s
   unfolding stepped read_step
   unread_stops x = rw goes
 
-  pub out_of_phase_stops : (r : Record) (next : ℕ) → in_phase s.phase (kind_of r) ≡ false → stepped (Found r next) s ≡ stops_at WrongPhase s
+  pub out_of_phase_stops : (r : Record) (next : ℕ) → in_phase s.phase (kind_of r) ≡ false → stepped (found r next) s ≡ stops_at WrongPhase s
   unfolding stepped read_step
   out_of_phase_stops r next out = rw (goes, out)
 
-  pub in_phase_is_carried_out : (r : Record) (next : ℕ) → in_phase s.phase (kind_of r) ≡ true → stepped (Found r next) s ≡ record_step r s
+  pub in_phase_is_carried_out : (r : Record) (next : ℕ) → in_phase s.phase (kind_of r) ≡ true → stepped (found r next) s ≡ record_step r s
   unfolding stepped read_step
   in_phase_is_carried_out r next here = rw (goes, here)
 
@@ -191,15 +188,15 @@ module _ (s : Replay) (goes : is_stopped s.phase ≡ false) where
     no_18 : lacks 18 checks ≡ true
     step : Verdict → Step
     same : record_step r s ≡ step (first_of checks)
-    quiet : (step Accepted).bytes ≡ []
-    on : is_stopped (step Accepted).replay.phase ≡ false
-    stops : (x : Refusal) → step (Refused x) ≡ stops_at x s
+    quiet : (step (Ok tt)).bytes ≡ []
+    on : is_stopped (step (Ok tt)).replay.phase ≡ false
+    stops : (x : Refusal) → step (Err x) ≡ stops_at x s
 
   setup_step : (r : Record) → kind_of r < 4 → SetupStep r
   unfolding record_step node_step model_step start_step node_checks rate_checks start_checks tree_checks
   setup_step (Node p w) k = record {
     checks = node_checks (grown p w s.tree);
-    no_18 = rw (no_fault's_number (newest_fault (grown p w s.tree)) 18 (omega arith) (omega arith));
+    no_18 = rw (no_fault's_number (fault_in (newest_fault (grown p w s.tree))) 18 (omega arith) (omega arith));
     step = λ v. node_step v (grown p w s.tree) s;
     same = refl;
     quiet = refl;
@@ -217,7 +214,7 @@ module _ (s : Replay) (goes : is_stopped s.phase ≡ false) where
   }
   setup_step (Start time) k = record {
     checks = start_checks s.tree s.rates;
-    no_18 = rw (no_fault's_number (tree_fault s.tree) 18 (omega arith) (omega arith));
+    no_18 = rw (no_fault's_number (fault_in (tree_fault s.tree)) 18 (omega arith) (omega arith));
     step = λ v. start_step v (started s.tree s.rates time).state s;
     same = rw (start_answers s.tree s.rates time);
     quiet = refl;
@@ -235,8 +232,8 @@ module _ (s : Replay) (goes : is_stopped s.phase ≡ false) where
   refused_in_setup_stops r k x e = let w = setup_step r k in rw w.same (go w (first_of w.checks) (rw w.same at e))
     where
       go : (w : SetupStep r) (v : Verdict) → (w.step v).bytes ≡ refusal_line x → (w.step v).replay.phase ≡ Stopped
-      go w Accepted f = absurd (refusal_line_some x (sym f ∙ w.quiet))
-      go w (Refused y) f = rw (w.stops y)
+      go w (Ok tt) f = absurd (refusal_line_some x (sym f ∙ w.quiet))
+      go w (Err y) f = rw (w.stops y)
 
   -- ---- 18 is given, its line printed and the replay stopped, exactly when the record is out of its phase: one of setup that is
   -- carried out has its own refusals, and a call goes on
@@ -244,8 +241,8 @@ module _ (s : Replay) (goes : is_stopped s.phase ≡ false) where
   setup_not_18 w e = go (first_of w.checks) refl (sym w.same ∙ e)
     where
       go : (v : Verdict) → first_of w.checks ≡ v → w.step v ≡ stops_at WrongPhase s → ⊥
-      go Accepted f i = true_not_false (ap (λ (t : Step). is_stopped t.replay.phase) i) w.on
-      go (Refused x) f i =
+      go (Ok tt) f i = true_not_false (ap (λ (t : Step). is_stopped t.replay.phase) i) w.on
+      go (Err x) f i =
           let same : number x ≡ 18 = refusal_line_tells_number x WrongPhase (ap (λ (t : Step). t.bytes) (sym (w.stops x) ∙ i)) in
           not_given x w.checks (rw same w.no_18) f
 
@@ -253,7 +250,7 @@ module _ (s : Replay) (goes : is_stopped s.phase ≡ false) where
   call_not_18 r k e = true_not_false (ap (λ (t : Step). is_stopped t.replay.phase) e) (rw (calls_go_on r s k) goes)
 
   pub refusal_18_exactly_when : (r : Record) (next : ℕ)
-      → (stepped (Found r next) s ≡ stops_at WrongPhase s) ↔ (in_phase s.phase (kind_of r) ≡ false)
+      → (stepped (found r next) s ≡ stops_at WrongPhase s) ↔ (in_phase s.phase (kind_of r) ≡ false)
   refusal_18_exactly_when r next = (
     λ e. is_false (in_phase s.phase (kind_of r)) (λ here. carried (sym (in_phase_is_carried_out r next here) ∙ e)),
     out_of_phase_stops r next,

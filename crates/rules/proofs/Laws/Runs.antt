@@ -1,6 +1,6 @@
 -- Calls in a row are steps of a part, one after the other: what they print and where they end is what the part's steps do.
 -- Assumes nothing.
-use Rattle.std.specs.Prelude.{◌≡◌, Bool, cond, ◌&&◌}
+use Rattle.std.specs.Prelude.{◌≡◌, Bool, cond, ◌&&◌, Err, None, Ok, Some, Option}
 use Rattle.std.proofs.Math.Path.{refl}
 use Rattle.std.proofs.Common.{ap, ◌∙◌}
 use Rattle.std.proofs.Math.Bool.{true, false}
@@ -14,7 +14,7 @@ use borrow.Author.Tests.{leb-true, le-leb, le-ltb}
 use Rattle.rules.specs.Numbers.{line_room}
 use Rattle.rules.specs.Trace.{behind, read_at}
 use Rattle.rules.specs.Replay.{within, goes_on, in_phase, is_stopped, all_room, record_step, read_step, next_place, stepped}
-use Rattle.rules.specs.Chunks.{is_end, is_cut, wants_bytes, halts, printed_before, part_from, call_of, is_call, is_running, runs, calling, Run, still, called_before, run_from}
+use Rattle.rules.specs.Chunks.{is_end, is_cut, wants_bytes, halts, printed_before, part_from, call_by, call_of, is_call, is_running, runs, calling, Run, still, called_before, run_from}
 use Rattle.rules.specs.Invariant.{Sound}
 use Rattle.rules.proofs.Laws.Bools.{true_not_false, and_left, and_right}
 use Rattle.rules.proofs.Laws.Chunks.{next_at}
@@ -26,22 +26,21 @@ use Rattle.rules.proofs.Laws.Plans.{planned_keeps}
 use Rattle.rules.specs.declared.budget.Controller.{Controller}
 use Rattle.rules.specs.declared.trace.Record.{Record}
 use Rattle.rules.specs.declared.trace.Record.TheVariants.{Node, Model as ModelOf, Start, Bio as BioOf, Tick, Plan, Vrate, Weight}
-use Rattle.rules.specs.declared.trace.Read.{Read}
-use Rattle.rules.specs.declared.trace.Read.TheVariants.{Found, End, Refused as Unread}
 use Rattle.rules.specs.declared.replay.Call.{Call}
-use Rattle.rules.specs.declared.replay.Call.TheVariants.{Bio as CallBio, Tick as CallTick, Plan as CallPlan, Set as CallSet, None as NoCall}
+use Rattle.rules.specs.declared.replay.Call.TheVariants.{Bio as CallBio, Tick as CallTick, Plan as CallPlan, Set as CallSet}
 use Rattle.rules.specs.declared.replay.Phase.{Phase}
 use Rattle.rules.specs.declared.replay.Phase.TheVariants.{Setup, Priced, Running, Stopped}
 use Rattle.rules.specs.declared.replay.Replay.{Replay}
+use Rattle.rules.specs.Results.{Read, found}
 
 -- ---- one call
-pub calling_keeps : (call : Call) {c : Controller} → Sound c → Sound (calling call c).state
+pub calling_keeps : (call : Option Call) {c : Controller} → Sound c → Sound (calling call c).state
 unfolding calling
-calling_keeps (CallBio b) sound = submit_keeps sound b
-calling_keeps (CallTick time) sound = ticked_keeps sound time all_room
-calling_keeps CallPlan sound = planned_keeps sound
-calling_keeps (CallSet x) sound = set_keeps x sound
-calling_keeps NoCall sound = sound
+calling_keeps (Some (CallBio b)) sound = submit_keeps sound b
+calling_keeps (Some (CallTick time)) sound = ticked_keeps sound time all_room
+calling_keeps (Some CallPlan) sound = planned_keeps sound
+calling_keeps (Some (CallSet x)) sound = set_keeps x sound
+calling_keeps None sound = sound
 
 -- the replay with another state
 abbrev pub holding : Replay → Controller → Replay
@@ -54,9 +53,9 @@ in_running Running e = refl
 in_running Stopped e = absurd (true_not_false e refl)
 
 -- in a replay that runs a call's record is in its phase, and does what the call does
-called_step : (r : Record) (next : ℕ) (s : Replay) → s.phase ≡ Running → is_call (call_of (Found r next)) ≡ true
-    → read_step (Found r next) s ≡ goes_on (calling (call_of (Found r next)) s.state) s
-unfolding is_call call_of calling read_step record_step in_phase
+called_step : (r : Record) (next : ℕ) (s : Replay) → s.phase ≡ Running → is_call (call_of (found r next)) ≡ true
+    → read_step (found r next) s ≡ goes_on (calling (call_of (found r next)) s.state) s
+unfolding is_call call_of call_by calling read_step record_step in_phase
 called_step (Node p w) next s e h = absurd (true_not_false h refl)
 called_step (ModelOf r) next s e h = absurd (true_not_false h refl)
 called_step (Start time) next s e h = absurd (true_not_false h refl)
@@ -68,10 +67,10 @@ called_step (Weight n w) next s e h = rw e
 
 pub call_steps : (read : Read) (s : Replay) → runs s.phase read ≡ true → read_step read s ≡ goes_on (calling (call_of read) s.state) s
 unfolding runs is_call call_of
-call_steps (Found r next) s e =
-    called_step r next s (in_running s.phase (and_left (is_running s.phase) _ e)) (and_right (is_running s.phase) _ e)
-call_steps End s e = absurd (true_not_false (and_right (is_running s.phase) false e) refl)
-call_steps (Unread x) s e = absurd (true_not_false (and_right (is_running s.phase) false e) refl)
+call_steps (Ok (Some f)) s e =
+    called_step f.item f.next s (in_running s.phase (and_left (is_running s.phase) _ e)) (and_right (is_running s.phase) _ e)
+call_steps (Ok None) s e = absurd (true_not_false (and_right (is_running s.phase) false e) refl)
+call_steps (Err x) s e = absurd (true_not_false (and_right (is_running s.phase) false e) refl)
 
 awake : (p : Phase) → is_running p ≡ true → is_stopped p ≡ false
 awake p e = ap is_stopped (in_running p e)
@@ -82,13 +81,13 @@ call_stepped read s e = rw (awake s.phase (and_left (is_running s.phase) _ e)) (
 
 call_halts_not : (last : Bool) (room : ℕ) → line_room ≤ room → (read : Read) (s : Replay) → runs s.phase read ≡ true → halts last read room s ≡ false
 unfolding halts runs wants_bytes is_cut is_end is_call call_of
-call_halts_not last room l (Found r next) s e = rw (awake s.phase (and_left (is_running s.phase) _ e), le-ltb room line_room l)
-call_halts_not last room l End s e = absurd (true_not_false (and_right (is_running s.phase) false e) refl)
-call_halts_not last room l (Unread x) s e = absurd (true_not_false (and_right (is_running s.phase) false e) refl)
+call_halts_not last room l (Ok (Some f)) s e = rw (awake s.phase (and_left (is_running s.phase) _ e), le-ltb room line_room l)
+call_halts_not last room l (Ok None) s e = absurd (true_not_false (and_right (is_running s.phase) false e) refl)
+call_halts_not last room l (Err x) s e = absurd (true_not_false (and_right (is_running s.phase) false e) refl)
 
 -- ---- a run goes from call to call
 module _ (trace : List ℕ) where
-  abbrev call_at : ℕ → Call
+  abbrev call_at : ℕ → Option Call
   call_at place = call_of (read_at trace place)
 
   -- a call's record takes a byte at least
@@ -97,9 +96,9 @@ module _ (trace : List ℕ) where
   call_moves place = go (read_at trace place) refl
     where
       go : (read : Read) → read_at trace place ≡ read → is_call (call_of read) ≡ true → (place < next_place read place) × (next_place read place ≤ length trace)
-      go (Found r next) e h = let f = found_only_whole trace place r next e in (omega (arith, f.to), omega (arith, f.to, f.inside))
-      go End e h = absurd (true_not_false h refl)
-      go (Unread x) e h = absurd (true_not_false h refl)
+      go (Ok (Some g)) e h = let f = found_only_whole trace place g.item g.next e in (omega (arith, f.to), omega (arith, f.to, f.inside))
+      go (Ok None) e h = absurd (true_not_false h refl)
+      go (Err x) e h = absurd (true_not_false h refl)
 
   -- one way through a run: it stays, or the call here is done and a run with one call less follows
   by_calls : (P : ℕ → ℕ → ℕ → Controller → Run → Type 0)

@@ -1,7 +1,7 @@
 -- What every call that sets one thing keeps, refused or not. A setting more has its case here, and of demand 3 where it is asked
 -- which tree is in force and which calls a trace holds.
 -- Assumes nothing.
-use Rattle.std.specs.Prelude.{◌≡◌, refl, ℕ, ◌+◌, ◌*◌, ◌≤◌}
+use Rattle.std.specs.Prelude.{◌≡◌, refl, ℕ, ◌+◌, ◌*◌, ◌≤◌, Err, Ok}
 use Rattle.std.proofs.Common.{arith}
 use Rattle.rules.specs.Numbers.{whole, leaf_most}
 use Rattle.rules.specs.Budget.{reshared, rebased, reweighted}
@@ -18,8 +18,7 @@ use Rattle.rules.specs.declared.budget.Controller.{Controller}
 use Rattle.rules.specs.declared.replay.Setting.{Setting}
 use Rattle.rules.specs.declared.replay.Setting.TheVariants.{Vrate, Weight}
 use Rattle.rules.specs.declared.refusals.Refusal.{Refusal}
-use Rattle.rules.specs.declared.refusals.Verdict.{Verdict}
-use Rattle.rules.specs.declared.refusals.Verdict.TheVariants.{Accepted, Refused}
+use Rattle.rules.specs.Results.{Verdict}
 
 -- nothing more is saved, and what waits and what is owed stay
 pub record SetsAlone (c d : Controller) : Type 0 where
@@ -36,14 +35,14 @@ unfolding vrated vrated_by weighted weighted_by saved
 sets_alone (Vrate v) {c} sound = go (first_of (vrate_checks v))
   where
     go : (t : Verdict) → SetsAlone c (vrated_by t v c).state
-    go Accepted = record { saves = omega arith; waits = λ n. refl; owes = λ n. refl }
-    go (Refused y) = record { saves = omega arith; waits = λ n. refl; owes = λ n. refl }
+    go (Ok tt) = record { saves = omega arith; waits = λ n. refl; owes = λ n. refl }
+    go (Err y) = record { saves = omega arith; waits = λ n. refl; owes = λ n. refl }
 sets_alone (Weight n w) {c} sound = go (first_of (weight_checks n w c.tree))
   where
     go : (t : Verdict) → SetsAlone c (weighted_by t n w c).state
-    go Accepted =
+    go (Ok tt) =
         record { saves = weight_saves_nothing sound n w; waits = weight_keeps_waiting sound n w; owes = weight_keeps_owed sound n w }
-    go (Refused y) = record { saves = omega arith; waits = λ k. refl; owes = λ k. refl }
+    go (Err y) = record { saves = omega arith; waits = λ k. refl; owes = λ k. refl }
 
 -- a weight leaves the whole clock
 pub setting_a_weight_keeps_the_clock : (n w : ℕ) (c : Controller) → (set_by (Weight n w) c).state.clock ≡ c.clock
@@ -51,8 +50,8 @@ unfolding weighted weighted_by reweighted rebased reshared
 setting_a_weight_keeps_the_clock n w c = go (first_of (weight_checks n w c.tree))
   where
     go : (t : Verdict) → (weighted_by t n w c).state.clock ≡ c.clock
-    go Accepted = refl
-    go (Refused y) = refl
+    go (Ok tt) = refl
+    go (Err y) = refl
 
 -- time, virtual time and its remainder stay, in any state
 pub set_keeps_times : (x : Setting) (c : Controller) → SameTimes c.clock (set_by x c).state.clock
@@ -60,11 +59,11 @@ unfolding vrated vrated_by
 set_keeps_times (Vrate v) c = go (first_of (vrate_checks v))
   where
     go : (t : Verdict) → SameTimes c.clock (vrated_by t v c).state.clock
-    go Accepted = record { time = refl; vtime = refl; remainder = refl }
-    go (Refused y) = record { time = refl; vtime = refl; remainder = refl }
+    go (Ok tt) = record { time = refl; vtime = refl; remainder = refl }
+    go (Err y) = record { time = refl; vtime = refl; remainder = refl }
 set_keeps_times (Weight n w) c = same_times (setting_a_weight_keeps_the_clock n w c)
 
-pub a_refused_setting_changes_nothing : (x : Setting) (c : Controller) (y : Refusal) → (set_by x c).answer ≡ Refused y → (set_by x c).state ≡ c
+pub a_refused_setting_changes_nothing : (x : Setting) (c : Controller) (y : Refusal) → (set_by x c).answer ≡ Err y → (set_by x c).state ≡ c
 a_refused_setting_changes_nothing (Vrate v) c y e = a_refused_vrate_changes_nothing v c y e
 a_refused_setting_changes_nothing (Weight n w) c y e = a_refused_weight_changes_nothing n w c y e
 

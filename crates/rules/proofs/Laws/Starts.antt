@@ -1,6 +1,6 @@
 -- Start gives a sound state, accepted or refused; another clock keeps one.
 -- Assumes nothing.
-use Rattle.std.specs.Prelude.{◌≡◌, refl, true, false, ℕ, ◌+◌, ◌*◌, replicate}
+use Rattle.std.specs.Prelude.{◌≡◌, refl, true, false, ℕ, ◌+◌, ◌*◌, replicate, Err, Ok}
 use Rattle.std.proofs.Math.Path.{sym}
 use Rattle.std.proofs.Common.{ap, ◌∙◌, arith}
 use Rattle.std.proofs.Math.ListN.{get_or}
@@ -29,8 +29,7 @@ use Rattle.rules.specs.declared.tree.Tree.{Tree}
 use Rattle.rules.specs.declared.budget.Row.{Row}
 use Rattle.rules.specs.declared.budget.Clock.{Clock}
 use Rattle.rules.specs.declared.budget.Controller.{Controller}
-use Rattle.rules.specs.declared.refusals.Verdict.{Verdict}
-use Rattle.rules.specs.declared.refusals.Verdict.TheVariants.{Accepted, Refused}
+use Rattle.rules.specs.Results.{Verdict}
 
 -- ---- the fresh state
 pub empty_queue_sound : SoundQueue empty_queue
@@ -136,10 +135,10 @@ unfolding started started_by
 start_gives t r time = go (first_of (start_checks t r)) refl
   where
     go : (v : Verdict) → first_of (start_checks t r) ≡ v → Sound (started_by v t r time).state
-    go Accepted e =
+    go (Ok tt) e =
         let w = start_passes t r e in
         fresh_sound t (priced r) time (sound_tree t w.tree) w.thick (record { rates = r; valid = w.rates; same = refl })
-    go (Refused x) e =
+    go (Err x) e =
         fresh_sound no_tree slowest_model 0 no_tree_sound no_tree_thick (record { rates = slowest; valid = slowest_valid; same = refl })
 
 pub start_saves_nothing : (t : Tree) (r : Rates) (time : ℕ) → saved (started t r time).state ≡ 0
@@ -147,16 +146,16 @@ unfolding started started_by
 start_saves_nothing t r time = go (first_of (start_checks t r))
   where
     go : (v : Verdict) → saved (started_by v t r time).state ≡ 0
-    go Accepted = fresh_saves_nothing t (priced r) time
-    go (Refused x) = fresh_saves_nothing no_tree slowest_model 0
+    go (Ok tt) = fresh_saves_nothing t (priced r) time
+    go (Err x) = fresh_saves_nothing no_tree slowest_model 0
 
 pub start_owes_nothing : (t : Tree) (r : Rates) (time n : ℕ) → waiting (started t r time).state n + owed (started t r time).state n ≡ 0
 unfolding started started_by
 start_owes_nothing t r time n = go (first_of (start_checks t r))
   where
     go : (v : Verdict) → waiting (started_by v t r time).state n + owed (started_by v t r time).state n ≡ 0
-    go Accepted = fresh_owes_nothing t (priced r) time n
-    go (Refused x) = fresh_owes_nothing no_tree slowest_model 0 n
+    go (Ok tt) = fresh_owes_nothing t (priced r) time n
+    go (Err x) = fresh_owes_nothing no_tree slowest_model 0 n
 
 -- ---- another clock with the same E, such as another vrate's
 pub clock_keeps : {c : Controller} → Sound c → (k : Clock) → SoundClock k → k.since ≡ c.clock.since → Sound (with_clock k c)
@@ -191,7 +190,7 @@ clock_keeps {c} sound k clock e = record {
 }
 
 -- ---- vrate
-pub with_vrate_keeps : {c : Controller} → Sound c → (v : ℕ) → first_of (vrate_checks v) ≡ Accepted → Sound (with_vrate v c)
+pub with_vrate_keeps : {c : Controller} → Sound c → (v : ℕ) → first_of (vrate_checks v) ≡ Ok tt → Sound (with_vrate v c)
 with_vrate_keeps {c} sound v e =
     let w = vrate_passes v e in
     clock_keeps sound (with_rate v c.clock)
@@ -209,5 +208,5 @@ unfolding vrated vrated_by
 vrate_keeps {c} sound v = go (first_of (vrate_checks v)) refl
   where
     go : (w : Verdict) → first_of (vrate_checks v) ≡ w → Sound (vrated_by w v c).state
-    go Accepted e = with_vrate_keeps sound v e
-    go (Refused x) e = sound
+    go (Ok tt) e = with_vrate_keeps sound v e
+    go (Err x) e = sound

@@ -1,6 +1,6 @@
 -- A submission: it keeps the invariant, charges no more than was saved, and balances the books of every leaf.
 -- Assumes nothing.
-use Rattle.std.specs.Prelude.{◌≡◌, Bool, cond, ◌&&◌, List, ◌≢◌, leb, ltb, length, get_or}
+use Rattle.std.specs.Prelude.{◌≡◌, Bool, cond, ◌&&◌, List, ◌≢◌, leb, ltb, length, get_or, Err, Ok}
 use Rattle.std.proofs.Math.Path.{refl, ap}
 use Rattle.std.proofs.Common.{sym, ◌∙◌, get_or-set_same, get_or-set_other, leb-false, ltb-false, eq-eqb, ne_eqb}
 use Rattle.std.proofs.Math.Bool.{true, false}
@@ -36,17 +36,16 @@ use Rattle.rules.specs.declared.budget.Row.{Row}
 use Rattle.rules.specs.declared.budget.Queue.{Queue}
 use Rattle.rules.specs.declared.budget.Controller.{Controller}
 use Rattle.rules.specs.declared.refusals.Refusal.{Refusal}
-use Rattle.rules.specs.declared.refusals.Verdict.{Verdict}
-use Rattle.rules.specs.declared.refusals.Verdict.TheVariants.{Accepted, Refused}
 use Rattle.rules.specs.declared.refusals.Answer.{Answer}
-use Rattle.rules.specs.declared.refusals.Answer.TheVariants.{Issued, Waits, OnDebt, Refused as Declined}
+use Rattle.rules.specs.declared.refusals.Answer.TheVariants.{Issued, Waits, OnDebt}
+use Rattle.rules.specs.Results.{Verdict, Answered}
 
 -- ---- what an answer leaves of its leaf
 pub record AnswerKeeps (a : Answer) (cost share : ℕ) (r : Row) (q : Queue) (r' : Row) (q' : Queue) : Type 0 where
-  pub worth : if_issued a cost * whole + r'.budget.0 * share ≤ r.budget.0 * share
-  pub usage : r'.usage.0 ≡ r.usage.0 + if_issued a cost
-  pub waiting : cost_of_first q' q'.len ≡ cost_of_first q q.len + if_waits a cost
-  pub owed : r'.debt.0 ≡ r.debt.0 + if_on_debt a cost
+  pub worth : if_issued (Ok a) cost * whole + r'.budget.0 * share ≤ r.budget.0 * share
+  pub usage : r'.usage.0 ≡ r.usage.0 + if_issued (Ok a) cost
+  pub waiting : cost_of_first q' q'.len ≡ cost_of_first q q.len + if_waits (Ok a) cost
+  pub owed : r'.debt.0 ≡ r.debt.0 + if_on_debt (Ok a) cost
   pub row : SoundRow r'
   pub queue : SoundQueue q'
   pub free : ends_donation a ≡ false → FreeLeaf r q → FreeLeaf r' q'
@@ -92,15 +91,6 @@ module _ (b : Bio) (cost : Abs) (share : ℕ) (r : Row) (q : Queue) (pos : 0 < s
       queue = queue;
       free = λ e. absurd (true_not_false refl e);
     }
-    answer_keeps (Declined x) f = record {
-      worth = omega arith;
-      usage = omega arith;
-      waiting = omega arith;
-      owed = omega arith;
-      row = noted_keeps b r near row;
-      queue = queue;
-      free = λ e w. record { no_debt = w.no_debt; no_waiter = w.no_waiter };
-    }
 
 -- ---- what a row holds beside its budget, its debt and its usage
 pub record SameMarks (r r' : Row) : Type 0 where
@@ -120,7 +110,6 @@ unfolding row_after
 answer_marks Issued cost share r = record { end = refl; begun = refl; accepted = refl }
 answer_marks Waits cost share r = record { end = refl; begun = refl; accepted = refl }
 answer_marks OnDebt cost share r = record { end = refl; begun = refl; accepted = refl }
-answer_marks (Declined x) cost share r = record { end = refl; begun = refl; accepted = refl }
 
 noted_marks : (b : Bio) {r r' : Row} → SameMarks r r' → SameMarks (noted b r) (noted b r')
 noted_marks b x = record {
@@ -200,30 +189,30 @@ Kept c b a =
     (noted b (row_after a (cost_in c b) (share_at c b.node) (row_at c b.node)))
     (queue_after a b.id (cost_in c b) (queue_at c b.node))
 
-pub none_issued : (a : Answer) → if_issued a 0 ≡ 0
-none_issued Issued = refl
-none_issued Waits = refl
-none_issued OnDebt = refl
-none_issued (Declined x) = refl
+pub none_issued : (a : Answered) → if_issued a 0 ≡ 0
+none_issued (Ok Issued) = refl
+none_issued (Ok Waits) = refl
+none_issued (Ok OnDebt) = refl
+none_issued (Err x) = refl
 
-none_waits : (a : Answer) → if_waits a 0 ≡ 0
-none_waits Issued = refl
-none_waits Waits = refl
-none_waits OnDebt = refl
-none_waits (Declined x) = refl
+none_waits : (a : Answered) → if_waits a 0 ≡ 0
+none_waits (Ok Issued) = refl
+none_waits (Ok Waits) = refl
+none_waits (Ok OnDebt) = refl
+none_waits (Err x) = refl
 
-none_owed : (a : Answer) → if_on_debt a 0 ≡ 0
-none_owed Issued = refl
-none_owed Waits = refl
-none_owed OnDebt = refl
-none_owed (Declined x) = refl
+none_owed : (a : Answered) → if_on_debt a 0 ≡ 0
+none_owed (Ok Issued) = refl
+none_owed (Ok Waits) = refl
+none_owed (Ok OnDebt) = refl
+none_owed (Err x) = refl
 
 -- a bio that is taken is issued, waits or goes on debt
-pub taken_is_one_of_three : (a : Answer) (cost : ℕ) → if_taken a cost ≡ if_issued a cost + if_waits a cost + if_on_debt a cost
-taken_is_one_of_three Issued cost = omega arith
-taken_is_one_of_three Waits cost = omega arith
-taken_is_one_of_three OnDebt cost = omega arith
-taken_is_one_of_three (Declined x) cost = omega arith
+pub taken_is_one_of_three : (a : Answered) (cost : ℕ) → if_taken a cost ≡ if_issued a cost + if_waits a cost + if_on_debt a cost
+taken_is_one_of_three (Ok Issued) cost = omega arith
+taken_is_one_of_three (Ok Waits) cost = omega arith
+taken_is_one_of_three (Ok OnDebt) cost = omega arith
+taken_is_one_of_three (Err x) cost = omega arith
 
 pub cost_here : (b : Bio) (c : Controller) → cost_on b.node b c ≡ (cost_in c b).0
 unfolding cost_on
@@ -320,30 +309,30 @@ module _ {c : Controller} (s : Sound c) (b : Bio) (a : Answer) (on : has c.activ
       go false = reweighed_itself (applied a b c)
 
   -- what an issued bio is charged is paid from what its leaf had saved
-  applied_flow : (j : ℕ) → if_issued a (cost_on j b c) * whole + (row_at (applied a b c) j).budget.0 * share_at (applied a b c) j
+  applied_flow : (j : ℕ) → if_issued (Ok a) (cost_on j b c) * whole + (row_at (applied a b c) j).budget.0 * share_at (applied a b c) j
       ≤ (row_at c j).budget.0 * share_at c j
   unfolding applied
   applied_flow =
-      each (λ j r q. if_issued a (cost_on j b c) * whole + r.budget.0 * share_at c j ≤ (row_at c j).budget.0 * share_at c j)
+      each (λ j r q. if_issued (Ok a) (cost_on j b c) * whole + r.budget.0 * share_at c j ≤ (row_at c j).budget.0 * share_at c j)
       (rw (cost_here b c) kept.worth)
-      (λ j e. rw (cost_elsewhere b c j e, none_issued a) (omega arith))
+      (λ j e. rw (cost_elsewhere b c j e, none_issued (Ok a)) (omega arith))
 
-  settled_flow : (j : ℕ) → if_issued a (cost_on j b c) * whole + (row_at (settled a b c) j).budget.0 * share_at (settled a b c) j
+  settled_flow : (j : ℕ) → if_issued (Ok a) (cost_on j b c) * whole + (row_at (settled a b c) j).budget.0 * share_at (settled a b c) j
       ≤ (row_at c j).budget.0 * share_at c j
   settled_flow j = omega (arith, applied_flow j, settling_reweighs.worth j)
 
   -- what waits and what is owed grows by the bio's cost as the answer says
-  applied_waiting : (j : ℕ) → waiting (applied a b c) j ≡ waiting c j + if_waits a (cost_on j b c)
+  applied_waiting : (j : ℕ) → waiting (applied a b c) j ≡ waiting c j + if_waits (Ok a) (cost_on j b c)
   applied_waiting =
-      each (λ j r q. cost_of_first q q.len ≡ waiting c j + if_waits a (cost_on j b c))
+      each (λ j r q. cost_of_first q q.len ≡ waiting c j + if_waits (Ok a) (cost_on j b c))
       (rw (cost_here b c) kept.waiting)
-      (λ j e. rw (cost_elsewhere b c j e, none_waits a) (omega arith))
+      (λ j e. rw (cost_elsewhere b c j e, none_waits (Ok a)) (omega arith))
 
-  applied_owed : (j : ℕ) → owed (applied a b c) j ≡ owed c j + if_on_debt a (cost_on j b c)
+  applied_owed : (j : ℕ) → owed (applied a b c) j ≡ owed c j + if_on_debt (Ok a) (cost_on j b c)
   applied_owed =
-      each (λ j r q. r.debt.0 ≡ owed c j + if_on_debt a (cost_on j b c))
+      each (λ j r q. r.debt.0 ≡ owed c j + if_on_debt (Ok a) (cost_on j b c))
       (rw (cost_here b c) kept.owed)
-      (λ j e. rw (cost_elsewhere b c j e, none_owed a) (omega arith))
+      (λ j e. rw (cost_elsewhere b c j e, none_owed (Ok a)) (omega arith))
 
   applied_notes : (j : ℕ) → Noted b j (row_at c j) (row_at (applied a b c) j)
   applied_notes =
@@ -373,7 +362,7 @@ wait_has_place a len e i = leb-false queue_room len (rw i at e)
 debt_has_limit : (a : Answer) (sum : ℕ) → (is_debt a && ltb debt_most sum) ≡ false → a ≡ OnDebt → sum ≤ debt_most
 debt_has_limit a sum e i = ltb-false debt_most sum (rw i at e)
 
-pub admitted : (b : Bio) (c : Controller) → first_of (submit_checks b c) ≡ Accepted → Admitted b c
+pub admitted : (b : Bio) (c : Controller) → first_of (submit_checks b c) ≡ Ok tt → Admitted b c
 unfolding submit_checks cost_checks room_checks
 admitted b c e =
     let w = (accepted_exactly_when (submit_checks b c)).0 e in
@@ -457,15 +446,15 @@ module _ {c : Controller} (s : Sound c) (b : Bio) (ok : Admitted b c) where
 -- ---- any bio: a refused one changes nothing
 module _ {c : Controller} (s : Sound c) (b : Bio) where
   -- by the verdict: a fact of the refused call's state and of the submission's is one of both
-  pub by_verdict : (P : Answer → Controller → Type 0)
-      → ((x : Refusal) → P (Declined x) c) → (Admitted b c → P (submission b c).answer (submission b c).state)
+  pub by_verdict : (P : Answered → Controller → Type 0)
+      → ((x : Refusal) → P (Err x) c) → (Admitted b c → P (submission b c).answer (submission b c).state)
       → P (submitted b c).answer (submitted b c).state
   unfolding submitted submitted_by
   by_verdict P refused taken = go (first_of (submit_checks b c)) refl
     where
       go : (v : Verdict) → first_of (submit_checks b c) ≡ v → P (submitted_by v b c).answer (submitted_by v b c).state
-      go Accepted e = taken (admitted b c e)
-      go (Refused x) e = refused x
+      go (Ok tt) e = taken (admitted b c e)
+      go (Err x) e = refused x
 
   pub submit_keeps : Sound (submitted b c).state
   submit_keeps = by_verdict (λ a d. Sound d) (λ x. s) (λ ok. submission_keeps s b ok)

@@ -1,6 +1,6 @@
 -- A tick keeps the state sound, charges no more than what was saved and what came in, and loses nothing that waits or is owed.
 -- Assumes nothing.
-use Rattle.std.specs.Prelude.{◌≡◌, Bool, true, false, List, ℕ, ◌+◌, ◌*◌, ◌≤◌, ◌<◌, get_or}
+use Rattle.std.specs.Prelude.{◌≡◌, Bool, true, false, List, ℕ, ◌+◌, ◌*◌, ◌≤◌, ◌<◌, get_or, Err, Ok}
 use Rattle.std.proofs.Math.Path.{refl, ap}
 use Rattle.std.proofs.Common.{◌∙◌, mul-le-mul_left}
 use native.Mathlib.Omega.{arith}
@@ -23,8 +23,7 @@ use Rattle.rules.specs.declared.units.Virt.{Virt}
 use Rattle.rules.specs.declared.budget.Row.{Row}
 use Rattle.rules.specs.declared.budget.Queue.{Queue}
 use Rattle.rules.specs.declared.budget.Controller.{Controller}
-use Rattle.rules.specs.declared.refusals.Verdict.{Verdict}
-use Rattle.rules.specs.declared.refusals.Verdict.TheVariants.{Accepted, Refused}
+use Rattle.rules.specs.Results.{Verdict}
 
 -- ---- one leaf, active or not: x is what it repays and y what it releases
 pub record LeafTick (g : Virt) (share x y : ℕ) (r : Row) (q : Queue) (t : Turn) : Type 0 where
@@ -228,10 +227,10 @@ module _ {c : Controller} (sound : Sound c) (time : ℕ) where
   usage_kept = omega (arith, tick_usages, all_usage sound (gain c time), all_flow sound (gain c time), tick_budgets, sound.usage_at_most)
 
   -- the lent buffer has room for all that is released
-  pub tick_releases_fit : (places : ℕ) → first_of (tick_checks time places c) ≡ Accepted → length (releases (gain c time) c) ≤ places
+  pub tick_releases_fit : (places : ℕ) → first_of (tick_checks time places c) ≡ Ok tt → length (releases (gain c time) c) ≤ places
   tick_releases_fit places e = omega (arith, releases_most sound (gain c time), (tick_passes time places c e).room)
 
-  pub tick_keeps : (places : ℕ) → first_of (tick_checks time places c) ≡ Accepted → Sound (tick time c)
+  pub tick_keeps : (places : ℕ) → first_of (tick_checks time places c) ≡ Ok tt → Sound (tick time c)
   unfolding tick advanced saved
   tick_keeps places e = record {
     tree = sound.tree;
@@ -265,8 +264,8 @@ module _ {c : Controller} (sound : Sound c) (time : ℕ) (lent : List ℕ) where
   ticked_keeps = go (first_of (tick_checks time (length lent) c)) refl
     where
       go : (v : Verdict) → first_of (tick_checks time (length lent) c) ≡ v → Sound (ticked_by v time c).state
-      go Accepted e = tick_keeps sound time (length lent) e
-      go (Refused x) e = sound
+      go (Ok tt) e = tick_keeps sound time (length lent) e
+      go (Err x) e = sound
 
   -- what the call charges is paid from what was saved and from what it generates
   pub tick_flow : charged (Call.tick time lent) c * whole + saved (after (Call.tick time lent) c)
@@ -278,13 +277,13 @@ module _ {c : Controller} (sound : Sound c) (time : ℕ) (lent : List ℕ) where
           → sum_to (λ n. 0 + if_accepted v (released_at (gain c time) c n) + if_accepted v (repaid_at (gain c time) c n)) leaf_most * whole
           + saved (ticked_by v time c).state
           ≤ saved c + if_accepted v (gain c time).0 * whole
-      go Accepted =
+      go (Ok tt) =
           omega (
             arith,
             tick_pays sound time,
             sum_cong (λ n. 0 + released_at (gain c time) c n + repaid_at (gain c time) c n) (paid_at (gain c time) c) leaf_most (λ n p l. omega arith),
           )
-      go (Refused x) = omega (arith, sum_none (λ n. 0 + 0 + 0) leaf_most (λ n p l. refl))
+      go (Err x) = omega (arith, sum_none (λ n. 0 + 0 + 0) leaf_most (λ n p l. refl))
 
   -- what waits and what is owed, with what the call releases and repays, is what waited and was owed
   pub tick_books : (n : ℕ)
@@ -297,5 +296,5 @@ module _ {c : Controller} (sound : Sound c) (time : ℕ) (lent : List ℕ) where
           → waiting (ticked_by v time c).state n + owed (ticked_by v time c).state n
           + if_accepted v (released_at (gain c time) c n) + if_accepted v (repaid_at (gain c time) c n)
           ≡ waiting c n + owed c n
-      go Accepted = tick_moves sound time n
-      go (Refused x) = omega arith
+      go (Ok tt) = tick_moves sound time n
+      go (Err x) = omega arith

@@ -1,7 +1,7 @@
 -- Laws of trace records: a number and its bytes, a body and its fields, a record written and read back, a record read and
 -- written back, and the same of a whole trace.
 -- Assumes nothing.
-use Rattle.std.specs.Prelude.{◌≡◌, Bool, List, [], ◌∷◌, ◌++◌, ◌⊎◌, ◌↔◌, ℕ, zero, suc, ◌+◌, ◌-◌, ◌*◌, ◌/◌, ◌%◌, ◌^◌, ◌≤◌, ◌<◌, eqb, leb, get_or, take}
+use Rattle.std.specs.Prelude.{◌≡◌, Bool, List, [], ◌∷◌, ◌++◌, ◌⊎◌, ◌↔◌, ℕ, zero, suc, ◌+◌, ◌-◌, ◌*◌, ◌/◌, ◌%◌, ◌^◌, ◌≤◌, ◌<◌, eqb, leb, get_or, take, Err, None, Ok, Some}
 use Rattle.std.proofs.Math.Path.{refl}
 use Rattle.std.proofs.Common.{sym, ap, ◌∙◌, append-nil, append_assoc, inl, inr, ⊎_elim, div-one, zero-add, add-one, arith, lit<, take-append-drop, length-append, length-take, length-drop, drop-cons, drop-drop, take-add, take_at, drop_at, get_or-drop}
 use Rattle.std.proofs.Math.Bool.{true, false, cond}
@@ -18,9 +18,7 @@ use Rattle.rules.specs.declared.refusals.Refusal.{Refusal}
 use Rattle.rules.specs.declared.refusals.Refusal.TheVariants.{UnknownKind, CutShort, ShortBuffer}
 use Rattle.rules.specs.declared.trace.Record.{Record}
 use Rattle.rules.specs.declared.trace.Record.TheVariants.{Node, Model, Start, Bio as BioOf, Tick, Plan, Vrate, Weight}
-use Rattle.rules.specs.declared.trace.Read.{Read}
-use Rattle.rules.specs.declared.trace.Read.TheVariants.{Found, End, Refused}
-use Rattle.rules.specs.declared.trace.Write.TheVariants.{Wrote, Refused as Unwritten}
+use Rattle.rules.specs.Results.{Read, found}
 
 -- ---- a number and its bytes
 
@@ -164,11 +162,11 @@ fields_of_record bs =
 
 -- ---- each answer of reading at a place, and when it is given
 module _ (trace : List ℕ) (at : ℕ) where
-  pub beyond_is_cut : length trace < at → read_at trace at ≡ Refused CutShort
+  pub beyond_is_cut : length trace < at → read_at trace at ≡ Err CutShort
   unfolding read_at
   beyond_is_cut h = rw (lt-ltb (length trace) at h)
 
-  pub end_at_the_end : at ≡ length trace → read_at trace at ≡ End
+  pub end_at_the_end : at ≡ length trace → read_at trace at ≡ Ok None
   unfolding read_at
   end_at_the_end e = rw (le-ltb (length trace) at (omega arith), eq-eqb at (length trace) e)
 
@@ -177,16 +175,16 @@ module _ (trace : List ℕ) (at : ℕ) where
     unfolding read_at
     inside_by_kind = rw (le-ltb (length trace) at (omega arith), ne_eqb at (length trace) (omega arith))
 
-    pub unknown_is_refused : is_kind (get_or trace at 0) ≡ false → read_at trace at ≡ Refused UnknownKind
+    pub unknown_is_refused : is_kind (get_or trace at 0) ≡ false → read_at trace at ≡ Err UnknownKind
     unfolding read_kind
     unknown_is_refused k = inside_by_kind ∙ rw k
 
-    pub short_is_cut : is_kind (get_or trace at 0) ≡ true → length trace < behind (get_or trace at 0) at → read_at trace at ≡ Refused CutShort
+    pub short_is_cut : is_kind (get_or trace at 0) ≡ true → length trace < behind (get_or trace at 0) at → read_at trace at ≡ Err CutShort
     unfolding read_kind
     short_is_cut k h = inside_by_kind ∙ rw (k, lt-ltb (length trace) (behind (get_or trace at 0) at) h)
 
     pub whole_is_found : is_kind (get_or trace at 0) ≡ true → behind (get_or trace at 0) at ≤ length trace
-        → read_at trace at ≡ Found (record_of (get_or trace at 0) (fields_from (layout (get_or trace at 0)) (drop (at + 1) trace))) (behind (get_or trace at 0) at)
+        → read_at trace at ≡ found (record_of (get_or trace at 0) (fields_from (layout (get_or trace at 0)) (drop (at + 1) trace))) (behind (get_or trace at 0) at)
     unfolding read_kind
     whole_is_found k h = inside_by_kind ∙ rw (k, le-ltb (length trace) (behind (get_or trace at 0) at) h)
 
@@ -199,11 +197,11 @@ end_at trace at = behind (get_or trace at 0) at
 
 -- the five cases of reading at a place; no two hold together, so each answer is given exactly where it should be
 pub data Reading (trace : List ℕ) (at : ℕ) : Read → Type 0 where
-  beyond : length trace < at → Reading trace at (Refused CutShort)
-  ended : at ≡ length trace → Reading trace at End
-  unknown : at < length trace → is_kind (get_or trace at 0) ≡ false → Reading trace at (Refused UnknownKind)
-  cut : at < length trace → is_kind (get_or trace at 0) ≡ true → length trace < end_at trace at → Reading trace at (Refused CutShort)
-  whole : is_kind (get_or trace at 0) ≡ true → end_at trace at ≤ length trace → Reading trace at (Found (record_at trace at) (end_at trace at))
+  beyond : length trace < at → Reading trace at (Err CutShort)
+  ended : at ≡ length trace → Reading trace at (Ok None)
+  unknown : at < length trace → is_kind (get_or trace at 0) ≡ false → Reading trace at (Err UnknownKind)
+  cut : at < length trace → is_kind (get_or trace at 0) ≡ true → length trace < end_at trace at → Reading trace at (Err CutShort)
+  whole : is_kind (get_or trace at 0) ≡ true → end_at trace at ≤ length trace → Reading trace at (found (record_at trace at) (end_at trace at))
 
 pub each_answer : (trace : List ℕ) (at : ℕ) → Reading trace at (read_at trace at)
 each_answer trace at = by_place (ltb (length trace) at) refl
@@ -226,10 +224,10 @@ each_answer trace at = by_place (ltb (length trace) at) refl
     by_place true h = rw (beyond_is_cut trace at (ltb-true _ _ h)) (beyond (ltb-true _ _ h))
     by_place false h = by_end (ltb-false _ _ h) (eqb at (length trace)) refl
 
-ended_only : {trace : List ℕ} {at : ℕ} → Reading trace at End → at ≡ length trace
+ended_only : {trace : List ℕ} {at : ℕ} → Reading trace at (Ok None) → at ≡ length trace
 ended_only (ended e) = e
 
-pub end_only_at_the_end : (trace : List ℕ) (at : ℕ) → read_at trace at ≡ End → at ≡ length trace
+pub end_only_at_the_end : (trace : List ℕ) (at : ℕ) → read_at trace at ≡ Ok None → at ≡ length trace
 end_only_at_the_end trace at e = ended_only (rw e at (each_answer trace at))
 
 -- a record is found only whole, and of a known kind
@@ -239,14 +237,14 @@ pub record FoundAt (trace : List ℕ) (at : ℕ) (r : Record) (next : ℕ) : Typ
   pub it : r ≡ record_at trace at
   pub to : next ≡ end_at trace at
 
-whole_only : {trace : List ℕ} {at : ℕ} {r : Record} {next : ℕ} → Reading trace at (Found r next) → FoundAt trace at r next
+whole_only : {trace : List ℕ} {at : ℕ} {r : Record} {next : ℕ} → Reading trace at (found r next) → FoundAt trace at r next
 whole_only (whole k l) = record { known = k; inside = l; it = refl; to = refl }
 
-pub found_only_whole : (trace : List ℕ) (at : ℕ) (r : Record) (next : ℕ) → read_at trace at ≡ Found r next → FoundAt trace at r next
+pub found_only_whole : (trace : List ℕ) (at : ℕ) (r : Record) (next : ℕ) → read_at trace at ≡ found r next → FoundAt trace at r next
 found_only_whole trace at r next e = whole_only (rw e at (each_answer trace at))
 
 -- ---- refusals 16, 17 and 28
-unknown_only : {trace : List ℕ} {at : ℕ} → Reading trace at (Refused UnknownKind) → (at < length trace) × (is_kind (get_or trace at 0) ≡ false)
+unknown_only : {trace : List ℕ} {at : ℕ} → Reading trace at (Err UnknownKind) → (at < length trace) × (is_kind (get_or trace at 0) ≡ false)
 unknown_only (unknown i k) = (i, k)
 
 -- a known kind whose body is not all there
@@ -255,42 +253,42 @@ pub record CutAt (trace : List ℕ) (at : ℕ) : Type 0 where
   pub known : is_kind (get_or trace at 0) ≡ true
   pub short : length trace < end_at trace at
 
-cut_only : {trace : List ℕ} {at : ℕ} → Reading trace at (Refused CutShort) → (length trace < at) ⊎ CutAt trace at
+cut_only : {trace : List ℕ} {at : ℕ} → Reading trace at (Err CutShort) → (length trace < at) ⊎ CutAt trace at
 cut_only (beyond h) = inl h
 cut_only (cut i k h) = inr (record { inside = i; known = k; short = h })
 
 module _ (trace : List ℕ) (at : ℕ) where
-  pub refusal_16_exactly_when : (read_at trace at ≡ Refused UnknownKind) ↔ ((at < length trace) × (is_kind (get_or trace at 0) ≡ false))
+  pub refusal_16_exactly_when : (read_at trace at ≡ Err UnknownKind) ↔ ((at < length trace) × (is_kind (get_or trace at 0) ≡ false))
   refusal_16_exactly_when = (λ e. unknown_only (rw e at (each_answer trace at)), λ w. unknown_is_refused trace at w.0 w.1)
 
-  pub refusal_17_exactly_when : (read_at trace at ≡ Refused CutShort) ↔ ((length trace < at) ⊎ CutAt trace at)
+  pub refusal_17_exactly_when : (read_at trace at ≡ Err CutShort) ↔ ((length trace < at) ⊎ CutAt trace at)
   refusal_17_exactly_when = (
     λ e. cut_only (rw e at (each_answer trace at)),
     ⊎_elim (beyond_is_cut trace at) (λ (w : CutAt trace at). short_is_cut trace at w.inside w.known w.short),
   )
 
 module _ (r : Record) (lent : List ℕ) where
-  pub refusal_28_exactly_when : (writing r lent ≡ Unwritten ShortBuffer) ↔ (length lent < length (record_bytes r))
+  pub refusal_28_exactly_when : (writing r lent ≡ Err ShortBuffer) ↔ (length lent < length (record_bytes r))
   unfolding writing
   refusal_28_exactly_when = go (ltb (length lent) (length (record_bytes r))) refl
     where
       go : (b : Bool) → ltb (length lent) (length (record_bytes r)) ≡ b
-          → (cond b (Unwritten ShortBuffer) (Wrote (length (record_bytes r))) ≡ Unwritten ShortBuffer) ↔ (length lent < length (record_bytes r))
+          → (cond b (Err ShortBuffer) (Ok (length (record_bytes r))) ≡ Err ShortBuffer) ↔ (length lent < length (record_bytes r))
       go true h = (λ e. ltb-true _ _ h, λ l. refl)
       go false h = (λ e. never (cc), λ l. absurd (omega (arith, ltb-false (length lent) (length (record_bytes r)) h)))
 
-  pub a_refused_write_changes_nothing : (x : Refusal) → writing r lent ≡ Unwritten x → written_to r lent ≡ lent
+  pub a_refused_write_changes_nothing : (x : Refusal) → writing r lent ≡ Err x → written_to r lent ≡ lent
   unfolding writing written_to
   a_refused_write_changes_nothing x = go (ltb (length lent) (length (record_bytes r)))
     where
-      go : (b : Bool) → cond b (Unwritten ShortBuffer) (Wrote (length (record_bytes r))) ≡ Unwritten x
+      go : (b : Bool) → cond b (Err ShortBuffer) (Ok (length (record_bytes r))) ≡ Err x
           → cond b lent (record_bytes r ++ drop (length (record_bytes r)) lent) ≡ lent
       go true e = refl
       go false e = never (cc)
 
 -- ---- written, then read
 body_is_found : (front body rest : List ℕ) (kind : ℕ) → is_kind kind ≡ true → length body ≡ total (layout kind)
-    → read_at (front ++ (kind ∷ body ++ rest)) (length front) ≡ Found (record_of kind (fields_from (layout kind) (body ++ rest))) (length front + suc (length body))
+    → read_at (front ++ (kind ∷ body ++ rest)) (length front) ≡ found (record_of kind (fields_from (layout kind) (body ++ rest))) (length front + suc (length body))
 unfolding behind
 body_is_found front body rest kind known long =
     let trace : List ℕ = front ++ (kind ∷ body ++ rest) in
@@ -301,17 +299,17 @@ body_is_found front body rest kind known long =
     whole_is_found trace (length front) (omega arith) (rw here known) (rw (here, ends) (omega arith)) ∙ rw (here, past, ends)
 
 pub written_reads_back_at : (front rest : List ℕ) (r : Record) → Fits r
-    → read_at (front ++ (record_bytes r ++ rest)) (length front) ≡ Found r (length front + length (record_bytes r))
+    → read_at (front ++ (record_bytes r ++ rest)) (length front) ≡ found r (length front + length (record_bytes r))
 unfolding Fits record_bytes
 written_reads_back_at front rest r fits =
     body_is_found front (body_of (layout (kind_of r)) (fields_of r)) rest (kind_of r) (kind_known r) (length_body (layout (kind_of r)) (fields_of r) fits)
     ∙ rw (fields_of_body (layout (kind_of r)) (fields_of r) rest fits, record_of_fields r)
 
-pub written_reads_back : (rest : List ℕ) (r : Record) → Fits r → read_at (record_bytes r ++ rest) 0 ≡ Found r (length (record_bytes r))
+pub written_reads_back : (rest : List ℕ) (r : Record) → Fits r → read_at (record_bytes r ++ rest) 0 ≡ found r (length (record_bytes r))
 written_reads_back rest r fits = written_reads_back_at [] rest r fits ∙ rw zero-add
 
 -- ---- read, then written
-pub read_writes_back : (trace : List ℕ) (at : ℕ) (r : Record) (next : ℕ) → Bytes trace → read_at trace at ≡ Found r next
+pub read_writes_back : (trace : List ℕ) (at : ℕ) (r : Record) (next : ℕ) → Bytes trace → read_at trace at ≡ found r next
     → take (next - at) (drop at trace) ≡ record_bytes r
 unfolding record_bytes behind
 read_writes_back trace at r next bytes e =
@@ -331,7 +329,7 @@ read_writes_back trace at r next bytes e =
     ) (rw add-one)
 
 -- what is read fits its widths
-pub found_fits : (trace : List ℕ) (at : ℕ) (r : Record) (next : ℕ) → Bytes trace → read_at trace at ≡ Found r next → Fits r
+pub found_fits : (trace : List ℕ) (at : ℕ) (r : Record) (next : ℕ) → Bytes trace → read_at trace at ≡ found r next → Fits r
 unfolding Fits behind
 found_fits trace at r next bytes e =
     let f = found_only_whole trace at r next e in
@@ -342,21 +340,21 @@ found_fits trace at r next bytes e =
     (fields_fit (layout kind) body (bytes_drop (at + 1) trace bytes) left)
 
 -- ---- the same over the entries' own words: what is written into a buffer is read at its front ..
-pub what_is_written_reads_back : (r : Record) (lent : List ℕ) (n : ℕ) → Fits r → writing r lent ≡ Wrote n → read_at (written_to r lent) 0 ≡ Found r n
+pub what_is_written_reads_back : (r : Record) (lent : List ℕ) (n : ℕ) → Fits r → writing r lent ≡ Ok n → read_at (written_to r lent) 0 ≡ found r n
 unfolding writing written_to
 what_is_written_reads_back r lent n fits = go (ltb (length lent) (length (record_bytes r)))
   where
-    go : (b : Bool) → cond b (Unwritten ShortBuffer) (Wrote (length (record_bytes r))) ≡ Wrote n
-        → read_at (cond b lent (record_bytes r ++ drop (length (record_bytes r)) lent)) 0 ≡ Found r n
+    go : (b : Bool) → cond b (Err ShortBuffer) (Ok (length (record_bytes r))) ≡ Ok n
+        → read_at (cond b lent (record_bytes r ++ drop (length (record_bytes r)) lent)) 0 ≡ found r n
     go true e = never (cc)
     go false e =
         let long : length (record_bytes r) ≡ n = cc in
         rw (← long) (written_reads_back (drop (length (record_bytes r)) lent) r fits)
 
 -- .. and what is read is written as the bytes that it was read from, and leaves those behind it
-pub what_is_read_writes_back : (trace lent : List ℕ) (at : ℕ) (r : Record) (next : ℕ) → Bytes trace → read_at trace at ≡ Found r next
+pub what_is_read_writes_back : (trace lent : List ℕ) (at : ℕ) (r : Record) (next : ℕ) → Bytes trace → read_at trace at ≡ found r next
     → next - at ≤ length lent
-    → (writing r lent ≡ Wrote (next - at)) × (written_to r lent ≡ take (next - at) (drop at trace) ++ drop (next - at) lent)
+    → (writing r lent ≡ Ok (next - at)) × (written_to r lent ≡ take (next - at) (drop at trace) ++ drop (next - at) lent)
 unfolding writing written_to
 what_is_read_writes_back trace lent at r next bytes e room =
     let same : record_bytes r ≡ take (next - at) (drop at trace) = sym (read_writes_back trace at r next bytes e) in
@@ -373,8 +371,8 @@ trace_of (r ∷ rs) = record_bytes r ++ trace_of rs
 
 -- reading from a place on finds these records, one behind the other, and then the end
 pub data Reads (trace : List ℕ) : ℕ → List Record → Type 0 where
-  none_left : {at : ℕ} → read_at trace at ≡ End → Reads trace at []
-  one_more : {at next : ℕ} {r : Record} {rs : List Record} → read_at trace at ≡ Found r next → Reads trace next rs → Reads trace at (r ∷ rs)
+  none_left : {at : ℕ} → read_at trace at ≡ Ok None → Reads trace at []
+  one_more : {at next : ℕ} {r : Record} {rs : List Record} → read_at trace at ≡ found r next → Reads trace next rs → Reads trace at (r ∷ rs)
 
 abbrev pub AllFit : List Record → Type 0
 AllFit [] = Unit {0}
@@ -384,7 +382,7 @@ written_trace_reads_on : (front : List ℕ) (rs : List Record) → AllFit rs →
 unfolding trace_of
 written_trace_reads_on front [] fit = none_left (end_at_the_end (front ++ []) (length front) (rw append-nil))
 written_trace_reads_on front (r ∷ rs) fit =
-    let here : read_at (front ++ (record_bytes r ++ trace_of rs)) (length front) ≡ Found r (length (front ++ record_bytes r)) =
+    let here : read_at (front ++ (record_bytes r ++ trace_of rs)) (length front) ≡ found r (length (front ++ record_bytes r)) =
     rw length-append (written_reads_back_at front (trace_of rs) r fit.0) in
     one_more here (rw append_assoc at (written_trace_reads_on (front ++ record_bytes r) rs fit.1))
 
@@ -423,12 +421,24 @@ read_trace_writes_back {trace} bytes (one_more {at = at} {next = next} {r = r} {
     let rest : drop next trace ≡ drop (next - at) (drop at trace) = sym (rw on at (drop-drop (next - at) at trace)) in
     rw (read_trace_writes_back bytes more, ← read_writes_back trace at r next bytes e, rest) (take-append-drop (next - at) (drop at trace))
 
+-- what is found, of a read that finds something
+abbrev record_or : Record → Read → Record
+record_or r (Ok (Some f)) = f.item
+record_or r (Ok None) = r
+record_or r (Err x) = r
+
+abbrev next_or : ℕ → Read → ℕ
+next_or n (Ok (Some f)) = f.next
+next_or n (Ok None) = n
+next_or n (Err x) = n
+
 -- reading has one result
 pub reads_one : {trace : List ℕ} {at : ℕ} {rs ss : List Record} → Reads trace at rs → Reads trace at ss → rs ≡ ss
 reads_one (none_left e) (none_left d) = refl
 reads_one (none_left e) (one_more d more) = never (cc)
 reads_one (one_more e more) (none_left d) = never (cc)
 reads_one (one_more {next = n} {r = r} e more) (one_more {next = m} {r = q} d less) =
-    let same : r ≡ q = cc in
-    let on : m ≡ n = cc in
+    let both : found r n ≡ found q m = sym e ∙ d in
+    let same : r ≡ q = ap (record_or r) both in
+    let on : m ≡ n = sym (ap (next_or n) both) in
     rw (same, reads_one more (rw on at less))

@@ -1,6 +1,6 @@
 -- What a sound tree keeps: its nodes, its leaves, the ways to the root, the active nodes, and a share by the parent's share.
 -- Assumes nothing.
-use Rattle.std.specs.Prelude.{◌≡◌, Bool, true, false, cond, not, ◌&&◌, ◌||◌, ◌⊎◌, leb, ltb, get_or}
+use Rattle.std.specs.Prelude.{◌≡◌, Bool, true, false, cond, not, ◌&&◌, ◌||◌, ◌⊎◌, leb, ltb, get_or, Ok, Err}
 use Rattle.std.proofs.Math.Path.{refl, sym, ap}
 use Rattle.std.proofs.Common.{◌∙◌, le_trans, mul-le-mul_left, mul_comm, eq-zero-or-pos, le_refl, eq-or-lt_of_le, lt_of_not-le, le_of_suc-le-suc}
 use Rattle.std.proofs.Math.Logic.{inl, inr, ⊎_elim, dite}
@@ -19,10 +19,11 @@ use Rattle.rules.specs.Tree.{is_leaf, leaves_of, on_way_in, on_way, is_active, c
 use Rattle.rules.specs.Invariant.{SoundTree, Within}
 use Rattle.rules.specs.declared.tree.Tree.{Tree}
 use Rattle.rules.specs.declared.tree.Fault.{Fault}
-use Rattle.rules.specs.declared.tree.Fault.TheVariants.{Sound, Count, Parent, Weight, Level}
+use Rattle.rules.specs.declared.tree.Fault.TheVariants.{Count, Parent, Weight, Level}
 use Rattle.rules.proofs.Laws.Bools.{never, true_not_false, is_false, same_test, and_left, and_right, and_both, or_left, or_right, or_cases, between}
 use Rattle.rules.proofs.Laws.Sums.{sum_in, any_in, any_out, any_none, none_any}
 use Rattle.rules.proofs.Laws.Sets.{has_set_of, set_of_past}
+use Rattle.rules.specs.Results.{Finding}
 
 -- what the test of one node says
 pub record SoundNode (t : Tree) (n : ℕ) : Type 0 where
@@ -46,26 +47,23 @@ parent_is t zero a = absurd (omega arith)
 parent_is t (suc n) a = refl
 
 -- a test that would have found the fault f has failed
-passed : (b : Bool) (f g : Fault) → (f ≡ Sound → ◌≡◌ {A = ℕ} 0 1) → cond b f g ≡ Sound → (b ≡ false) × (g ≡ Sound)
-passed true f g h e = never (h e)
-passed false f g h e = (refl, e)
+passed : (b : Bool) (f : Fault) (g : Finding) → cond b (Err f) g ≡ Ok tt → (b ≡ false) × (g ≡ Ok tt)
+passed true f g e = never (cc)
+passed false f g e = (refl, e)
 
-earlier_left : (f g : Fault) → earlier_fault f g ≡ Sound → f ≡ Sound
-earlier_left Sound g e = refl
-earlier_left Count g e = e
-earlier_left (Parent n) g e = e
-earlier_left (Weight n) g e = e
-earlier_left (Level n) g e = e
+earlier_left : (f g : Finding) → earlier_fault f g ≡ Ok tt → f ≡ Ok tt
+earlier_left (Ok tt) g e = refl
+earlier_left (Err f) g e = e
 
-earlier_right : (f g : Fault) → earlier_fault f g ≡ Sound → g ≡ Sound
+earlier_right : (f g : Finding) → earlier_fault f g ≡ Ok tt → g ≡ Ok tt
 earlier_right f g e = rw (earlier_left f g e) at e
 
-pub node_sound : (t : Tree) (n : ℕ) → node_fault t n ≡ Sound → SoundNode t n
+pub node_sound : (t : Tree) (n : ℕ) → node_fault t n ≡ Ok tt → SoundNode t n
 unfolding node_fault
 node_sound t n e =
-    let a = passed (leb n (parent t n)) (Parent n) _ (λ q. cc) e in
-    let b = passed (not (weight_in_range (weight t n))) (Weight n) _ (λ q. cc) a.1 in
-    let c = passed (ltb level_most (level t n)) (Level n) _ (λ q. cc) b.1 in
+    let a = passed (leb n (parent t n)) (Parent n) _ e in
+    let b = passed (not (weight_in_range (weight t n))) (Weight n) _ a.1 in
+    let c = passed (ltb level_most (level t n)) (Level n) _ b.1 in
     let w = weight_range (weight t n) (not-false (weight_in_range (weight t n)) b.0) in
     record {
       up = leb-false n (parent t n) a.0;
@@ -74,7 +72,7 @@ node_sound t n e =
       shallow = ltb-false level_most (level t n) c.0;
     }
 
-pub sound_node : (t : Tree) (n : ℕ) → SoundNode t n → node_fault t n ≡ Sound
+pub sound_node : (t : Tree) (n : ℕ) → SoundNode t n → node_fault t n ≡ Ok tt
 unfolding node_fault weight_in_range
 sound_node t n s =
     rw (
@@ -84,7 +82,7 @@ sound_node t n s =
       le-ltb level_most (level t n) s.shallow,
     )
 
-pub nodes_sound : (t : Tree) (m : ℕ) → fault_to t m ≡ Sound → (n : ℕ) → 0 < n → n ≤ m → SoundNode t n
+pub nodes_sound : (t : Tree) (m : ℕ) → fault_to t m ≡ Ok tt → (n : ℕ) → 0 < n → n ≤ m → SoundNode t n
 unfolding fault_to
 nodes_sound t zero e n p q = absurd (omega arith)
 nodes_sound t (suc m) e n p q =
@@ -93,7 +91,7 @@ nodes_sound t (suc m) e n p q =
     (λ (l : n < suc m). nodes_sound t m (earlier_left (fault_to t m) (node_fault t (suc m)) e) n p (omega arith))
     (eq-or-lt_of_le q)
 
-pub sound_nodes : (t : Tree) (m : ℕ) → ((n : ℕ) → 0 < n → n ≤ m → SoundNode t n) → fault_to t m ≡ Sound
+pub sound_nodes : (t : Tree) (m : ℕ) → ((n : ℕ) → 0 < n → n ≤ m → SoundNode t n) → fault_to t m ≡ Ok tt
 unfolding fault_to
 sound_nodes t zero h = refl
 sound_nodes t (suc m) h =
@@ -108,15 +106,15 @@ sound_from_nodes t most node = record {
   shallow = λ n p q. (node n p q).shallow;
 }
 
-pub sound_tree : (t : Tree) → tree_fault t ≡ Sound → SoundTree t
+pub sound_tree : (t : Tree) → tree_fault t ≡ Ok tt → SoundTree t
 unfolding tree_fault
 sound_tree t e = go (count_in_range t.count) refl e
   where
-    go : (b : Bool) → count_in_range t.count ≡ b → cond b (fault_to t (last t)) Count ≡ Sound → SoundTree t
+    go : (b : Bool) → count_in_range t.count ≡ b → cond b (fault_to t (last t)) (Err Count) ≡ Ok tt → SoundTree t
     go true c f = sound_from_nodes t (count_range t.count c).1 (nodes_sound t (last t) f)
     go false c f = never (cc)
 
-pub tree_sound : (t : Tree) → nodes_least ≤ t.count → SoundTree t → tree_fault t ≡ Sound
+pub tree_sound : (t : Tree) → nodes_least ≤ t.count → SoundTree t → tree_fault t ≡ Ok tt
 unfolding tree_fault count_in_range
 tree_sound t least s =
     rw (le-leb nodes_least t.count least, le-leb t.count nodes_most s.most)

@@ -1,13 +1,12 @@
 -- The first check that holds is given: when a list of checks accepts, and when it gives one certain refusal.
 -- Assumes nothing.
-use Rattle.std.specs.Prelude.{◌≡◌, refl, ◌↔◌, Bool, true, false, cond, not, ◌&&◌, List, [], ◌∷◌, ◌++◌, ℕ, eqb}
+use Rattle.std.specs.Prelude.{◌≡◌, refl, ◌↔◌, Bool, true, false, cond, not, ◌&&◌, List, [], ◌∷◌, ◌++◌, ℕ, eqb, Err, Ok}
 use Rattle.std.proofs.Common.{sym, ap, ◌∙◌, eq-eqb}
 use Rattle.std.proofs.lemmas.Bool.{not-true}
 use Rattle.rules.specs.Refusals.{Check, ◌⇒◌, number, first_of}
 use Rattle.rules.proofs.Laws.Bools.{never, true_not_false, and_left, and_right}
 use Rattle.rules.specs.declared.refusals.Refusal.{Refusal}
-use Rattle.rules.specs.declared.refusals.Verdict.{Verdict}
-use Rattle.rules.specs.declared.refusals.Verdict.TheVariants.{Accepted, Refused}
+use Rattle.rules.specs.Results.{Verdict}
 
 -- none of them holds
 abbrev pub NoneHolds : List Check → Type 0
@@ -19,19 +18,19 @@ abbrev pub lacks : ℕ → List Check → Bool
 lacks n [] = true
 lacks n (k ∷ ks) = not (eqb (number k.refusal) n) && lacks n ks
 
-pub accepted_is_not_refused : (x : Refusal) → Accepted ≡ Refused x → ⊥
+pub accepted_is_not_refused : (x : Refusal) → ◌≡◌ {A = Verdict} (Ok tt) (Err x) → ⊥
 accepted_is_not_refused x e = never (cc)
 
-same_refusal : (x y : Refusal) → Refused x ≡ Refused y → x ≡ y
+same_refusal : (x y : Refusal) → ◌≡◌ {A = Verdict} (Err x) (Err y) → x ≡ y
 same_refusal x y e = cc
 
 -- ---- accepted exactly when no check holds
-pub accepted_exactly_when : (ks : List Check) → (first_of ks ≡ Accepted) ↔ NoneHolds ks
+pub accepted_exactly_when : (ks : List Check) → (first_of ks ≡ Ok tt) ↔ NoneHolds ks
 accepted_exactly_when [] = (λ e. tt, λ w. refl)
 accepted_exactly_when (k ∷ ks) = go k.holds (accepted_exactly_when ks)
   where
-    go : (b : Bool) → ((first_of ks ≡ Accepted) ↔ NoneHolds ks)
-        → (cond b (Refused k.refusal) (first_of ks) ≡ Accepted) ↔ ((b ≡ false) × NoneHolds ks)
+    go : (b : Bool) → ((first_of ks ≡ Ok tt) ↔ NoneHolds ks)
+        → (cond b (Err k.refusal) (first_of ks) ≡ Ok tt) ↔ ((b ≡ false) × NoneHolds ks)
     go true i = (λ e. absurd (accepted_is_not_refused k.refusal (sym e)), λ w. absurd (true_not_false refl w.0))
     go false i = (λ e. (refl, i.0 e), λ w. i.1 w.1)
 
@@ -40,15 +39,15 @@ none_first : (ks ms : List Check) → NoneHolds ks → first_of (ks ++ ms) ≡ f
 none_first [] ms w = refl
 none_first (k ∷ ks) ms w = rw w.0 (none_first ks ms w.1)
 
-pub first_passed : (ks ms : List Check) → first_of ks ≡ Accepted → first_of (ks ++ ms) ≡ first_of ms
+pub first_passed : (ks ms : List Check) → first_of ks ≡ Ok tt → first_of (ks ++ ms) ≡ first_of ms
 first_passed ks ms e = none_first ks ms ((accepted_exactly_when ks).0 e)
 
-pub first_refused : (ks ms : List Check) (x : Refusal) → first_of ks ≡ Refused x → first_of (ks ++ ms) ≡ Refused x
+pub first_refused : (ks ms : List Check) (x : Refusal) → first_of ks ≡ Err x → first_of (ks ++ ms) ≡ Err x
 first_refused [] ms x e = absurd (accepted_is_not_refused x e)
 first_refused (k ∷ ks) ms x e = go k.holds e (first_refused ks ms x)
   where
-    go : (b : Bool) → cond b (Refused k.refusal) (first_of ks) ≡ Refused x → (first_of ks ≡ Refused x → first_of (ks ++ ms) ≡ Refused x)
-        → cond b (Refused k.refusal) (first_of (ks ++ ms)) ≡ Refused x
+    go : (b : Bool) → cond b (Err k.refusal) (first_of ks) ≡ Err x → (first_of ks ≡ Err x → first_of (ks ++ ms) ≡ Err x)
+        → cond b (Err k.refusal) (first_of (ks ++ ms)) ≡ Err x
     go true f i = f
     go false f i = i f
 
@@ -56,12 +55,12 @@ first_refused (k ∷ ks) ms x e = go k.holds e (first_refused ks ms x)
 other_number : (x y : Refusal) → not (eqb (number y) (number x)) ≡ true → y ≡ x → ⊥
 other_number x y n e = true_not_false (eq-eqb (number y) (number x) (ap number e)) (not-true (eqb (number y) (number x)) n)
 
-pub not_given : (x : Refusal) (ks : List Check) → lacks (number x) ks ≡ true → first_of ks ≡ Refused x → ⊥
+pub not_given : (x : Refusal) (ks : List Check) → lacks (number x) ks ≡ true → first_of ks ≡ Err x → ⊥
 not_given x [] l e = accepted_is_not_refused x e
 not_given x (k ∷ ks) l e =
     go k.holds e (not_given x ks (and_right (not (eqb (number k.refusal) (number x))) (lacks (number x) ks) l))
   where
-    go : (b : Bool) → cond b (Refused k.refusal) (first_of ks) ≡ Refused x → (first_of ks ≡ Refused x → ⊥) → ⊥
+    go : (b : Bool) → cond b (Err k.refusal) (first_of ks) ≡ Err x → (first_of ks ≡ Err x → ⊥) → ⊥
     go true f i =
         other_number x k.refusal (and_left (not (eqb (number k.refusal) (number x))) (lacks (number x) ks) l) (same_refusal k.refusal x f)
     go false f i = i f
@@ -69,10 +68,10 @@ not_given x (k ∷ ks) l e =
 -- ---- "Given exactly when": its check holds, and none before it in the list does
 pub given_exactly_when : (before : List Check) (b : Bool) (x : Refusal) (behind : List Check)
     → lacks (number x) before ≡ true → lacks (number x) behind ≡ true
-    → (first_of (before ++ (b ⇒ x) ∷ behind) ≡ Refused x) ↔ (NoneHolds before × (b ≡ true))
+    → (first_of (before ++ (b ⇒ x) ∷ behind) ≡ Err x) ↔ (NoneHolds before × (b ≡ true))
 given_exactly_when [] b x behind l m = go b
   where
-    go : (t : Bool) → (cond t (Refused x) (first_of behind) ≡ Refused x) ↔ (Unit {0} × (t ≡ true))
+    go : (t : Bool) → (cond t (Err x) (first_of behind) ≡ Err x) ↔ (Unit {0} × (t ≡ true))
     go true = (λ e. (tt, refl), λ w. refl)
     go false = (λ e. absurd (not_given x behind m e), λ w. absurd (true_not_false w.1 refl))
 given_exactly_when (k ∷ ks) b x behind l m =
@@ -81,8 +80,8 @@ given_exactly_when (k ∷ ks) b x behind l m =
     rest : Verdict
     rest = first_of (ks ++ (b ⇒ x) ∷ behind)
 
-    go : (t : Bool) → ((rest ≡ Refused x) ↔ (NoneHolds ks × (b ≡ true)))
-        → (cond t (Refused k.refusal) rest ≡ Refused x) ↔ (((t ≡ false) × NoneHolds ks) × (b ≡ true))
+    go : (t : Bool) → ((rest ≡ Err x) ↔ (NoneHolds ks × (b ≡ true)))
+        → (cond t (Err k.refusal) rest ≡ Err x) ↔ (((t ≡ false) × NoneHolds ks) × (b ≡ true))
     go true i = (
       λ e.
           absurd (other_number x k.refusal (and_left (not (eqb (number k.refusal) (number x))) (lacks (number x) ks) l) (same_refusal k.refusal x e)),
@@ -100,11 +99,11 @@ pub record First (ks : List Check) (x : Refusal) : Type 0 where
   pub holds : it.holds ≡ true
   pub gives : it.refusal ≡ x
 
-first_out : (ks : List Check) (x : Refusal) → first_of ks ≡ Refused x → First ks x
+first_out : (ks : List Check) (x : Refusal) → first_of ks ≡ Err x → First ks x
 first_out [] x e = absurd (accepted_is_not_refused x e)
 first_out (k ∷ ks) x e = go k.holds refl e (first_out ks x)
   where
-    go : (b : Bool) → k.holds ≡ b → cond b (Refused k.refusal) (first_of ks) ≡ Refused x → (first_of ks ≡ Refused x → First ks x) → First (k ∷ ks) x
+    go : (b : Bool) → k.holds ≡ b → cond b (Err k.refusal) (first_of ks) ≡ Err x → (first_of ks ≡ Err x → First ks x) → First (k ∷ ks) x
     go true h f i = record {
       before = [];
       it = k;
@@ -126,9 +125,9 @@ first_out (k ∷ ks) x e = go k.holds refl e (first_out ks x)
           gives = w.gives;
         }
 
-first_in : (before : List Check) (it : Check) (behind : List Check) → NoneHolds before → it.holds ≡ true → first_of (before ++ it ∷ behind) ≡ Refused it.refusal
+first_in : (before : List Check) (it : Check) (behind : List Check) → NoneHolds before → it.holds ≡ true → first_of (before ++ it ∷ behind) ≡ Err it.refusal
 first_in [] it behind w h = rw h
 first_in (k ∷ ks) it behind w h = rw w.0 (first_in ks it behind w.1 h)
 
-pub first_is_refused : (ks : List Check) (x : Refusal) → (first_of ks ≡ Refused x) ↔ First ks x
-first_is_refused ks x = (first_out ks x, λ w. ap first_of w.split ∙ first_in w.before w.it w.behind w.none w.holds ∙ ap Refused w.gives)
+pub first_is_refused : (ks : List Check) (x : Refusal) → (first_of ks ≡ Err x) ↔ First ks x
+first_is_refused ks x = (first_out ks x, λ w. ap first_of w.split ∙ first_in w.before w.it w.behind w.none w.holds ∙ ap Err w.gives)

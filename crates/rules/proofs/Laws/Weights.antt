@@ -1,6 +1,6 @@
 -- Another weight at one node: what the tree keeps, that the state stays sound, and that nothing is saved by it.
 -- Assumes nothing.
-use Rattle.std.specs.Prelude.{◌≡◌, Bool, true, false, ◌&&◌, ◌≢◌, set}
+use Rattle.std.specs.Prelude.{◌≡◌, Bool, true, false, ◌&&◌, ◌≢◌, set, Err, Ok}
 use Rattle.std.proofs.Math.Path.{refl, sym, ap}
 use Rattle.std.proofs.Common.{◌∙◌, lt_of_not-le, le_of_suc-le-suc, arith}
 use Rattle.std.proofs.Math.Bool.{not}
@@ -30,8 +30,7 @@ use Rattle.rules.specs.declared.tree.Tree.{Tree}
 use Rattle.rules.specs.declared.budget.Row.{Row}
 use Rattle.rules.specs.declared.budget.Queue.{Queue}
 use Rattle.rules.specs.declared.budget.Controller.{Controller}
-use Rattle.rules.specs.declared.refusals.Verdict.{Verdict}
-use Rattle.rules.specs.declared.refusals.Verdict.TheVariants.{Accepted, Refused}
+use Rattle.rules.specs.Results.{Verdict}
 
 -- ---- what the tree keeps: all but the one weight
 module _ (n w : ℕ) (t : Tree) where
@@ -195,7 +194,7 @@ module _ {c : Controller} (sound : Sound c) (n w : ℕ) where
       (reshared_row c.active no_node (base_shares (with_weight n w c.tree) c.active) (with_tree (with_weight n w c.tree) c) sound.rows_all k)
 
 -- ---- the call: accepted it is this change, and refused or not the state stays sound
-pub an_accepted_weight_is_in_force : (n w : ℕ) (c : Controller) → first_of (weight_checks n w c.tree) ≡ Accepted → (weighted n w c).state ≡ reweighted n w c
+pub an_accepted_weight_is_in_force : (n w : ℕ) (c : Controller) → first_of (weight_checks n w c.tree) ≡ Ok tt → (weighted n w c).state ≡ reweighted n w c
 unfolding weighted weighted_by
 an_accepted_weight_is_in_force n w c e = ap (λ (v : Verdict). (weighted_by v n w c).state) e
 
@@ -204,5 +203,5 @@ unfolding weighted weighted_by
 weighted_keeps {c} sound n w = go (first_of (weight_checks n w c.tree)) refl
   where
     go : (v : Verdict) → first_of (weight_checks n w c.tree) ≡ v → Sound (weighted_by v n w c).state
-    go Accepted e = let p = weight_passes n w c.tree e in weight_keeps sound n w p.range p.thick
-    go (Refused x) e = sound
+    go (Ok tt) e = let p = weight_passes n w c.tree e in weight_keeps sound n w p.range p.thick
+    go (Err x) e = sound

@@ -28,12 +28,12 @@ use Rattle.rules.specs.declared.replay.Setting.TheVariants.{Vrate as SetVrate}
 use Rattle.rules.specs.declared.refusals.Answer.TheVariants.{Waits, OnDebt}
 use Rattle.rules.specs.declared.trace.Record.{Record}
 use Rattle.rules.specs.declared.trace.Record.TheVariants.{Node, Model as ModelOf, Start, Bio as BioOf, Tick, Plan, Vrate, Weight}
-use Rattle.rules.specs.declared.trace.Read.TheVariants.{Found}
 use Rattle.rules.specs.declared.replay.Phase.{Phase}
 use Rattle.rules.specs.declared.replay.Phase.TheVariants.{Setup, Priced, Running, Stopped}
 use Rattle.rules.specs.declared.replay.Replay.{Replay}
 use Rattle.rules.specs.Bench.Run.{run_tree}
 use Rattle.rules.specs.Bench.{bytes_of_all, B, rates_M, M, bio, at_zero, cost_number, tree, tree5, tree6, tree7, clock_at, running, saved as saved_row, used, state9, letter, plan10, Case}
+use Rattle.rules.specs.Results.{found}
 
 -- ---- the edges
 abbrev pub is : Bool → Case
@@ -402,11 +402,11 @@ abbrev pub at : Phase → Replay
 at phase = within phase root_tree slowest beginning.state
 
 abbrev pub after : Record → Phase → Step
-after r phase = stepped (Found r 9) (at phase)
+after r phase = stepped (found r 9) (at phase)
 
 -- a ninth bio of a leaf with 8 waiting
 abbrev pub refused7 : Step
-refused7 = stepped (Found (BioOf (bio 1 0 4096)) 9) (within Running root_tree slowest (put_leaf 1 (saved_row 0) (holding 8) (state9 0)))
+refused7 = stepped (found (BioOf (bio 1 0 4096)) 9) (within Running root_tree slowest (put_leaf 1 (saved_row 0) (holding 8) (state9 0)))
 
 abbrev pub tree_numbers : Tree → List ℕ
 tree_numbers t = t.count ∷ take 3 t.parents ++ take 3 t.weights
@@ -429,7 +429,7 @@ parts =
     ∷ phase_number (after (Node 0 0) Priced).replay.phase
     ∷ phase_number (after (ModelOf (rates_M 1)) Setup).replay.phase
     ∷ phase_number (after (ModelOf (rates_M 0)) Setup).replay.phase
-    ∷ phase_number (stepped (Found (Start 0) 9) (within Priced (grown 0 5 root_tree) slowest beginning.state)).replay.phase
+    ∷ phase_number (stepped (found (Start 0) 9) (within Priced (grown 0 5 root_tree) slowest beginning.state)).replay.phase
     ∷ phase_number (after (Start 0) Priced).replay.phase
     ∷ phase_number (after Plan Running).replay.phase
     ∷ phase_number (after (Vrate 0) Running).replay.phase
@@ -447,7 +447,7 @@ parts =
     -- a replay that has stopped reads and prints no more
     ∷ see ((after Plan Stopped).bytes ++ (stepped (read_at (0 ∷ []) 0) (at Stopped)).bytes) []
     -- the next record begins behind the last; there is none at the end, nor where nothing can be read
-    ∷ see (next_place (Found Plan 9) 8 ∷ next_place (read_at (1 ∷ []) 1) 1 ∷ next_place (read_at (1 ∷ 0 ∷ []) 1) 1 ∷ []) (9 ∷ 1 ∷ 1 ∷ [])
+    ∷ see (next_place (found Plan 9) 8 ∷ next_place (read_at (1 ∷ []) 1) 1 ∷ next_place (read_at (1 ∷ 0 ∷ []) 1) 1 ∷ []) (9 ∷ 1 ∷ 1 ∷ [])
     -- a tick is lent room for all 504 that can wait
     ∷ see (tick_call 0 crowded).bytes []
     ∷ []

@@ -1,10 +1,10 @@
 -- Numbers of their own for what is wrong with a tree: which number, which node, what is looked at first, and the lines of it.
 -- Assumes nothing.
-use Rattle.std.specs.Prelude.{List, [], ◌∷◌, ◌++◌, ℕ, ◌-◌, ◌^◌, length, replicate, set}
+use Rattle.std.specs.Prelude.{List, [], ◌∷◌, ◌++◌, ℕ, ◌-◌, ◌^◌, length, replicate, set, cond}
 use Rattle.rules.specs.Numbers.{refusal_room}
 use Rattle.rules.specs.Budget.{fresh}
 use Rattle.rules.specs.Tree.{tree_fault}
-use Rattle.rules.specs.Refusals.{Check, fault_number, number, named, first_of, verdict_paper, tree_checks, node_checks, start_checks, weight_checks}
+use Rattle.rules.specs.Refusals.{Check, fault_number, number, named, first_of, verdict_paper, tree_checks, node_checks, start_checks, weight_checks, is_fault, fault_in}
 use Rattle.rules.specs.Entries.{slowest}
 use Rattle.rules.specs.Replay.{refusal_line, grown, root_tree, within, stepped, replay}
 use Rattle.rules.specs.declared.cost.Rates.{Rates}
@@ -14,10 +14,10 @@ use Rattle.rules.specs.declared.refusals.Refusal.{Refusal}
 use Rattle.rules.specs.declared.refusals.Refusal.TheVariants.{BadTree, ThinTree, BadRate, NoLeaf, BadBio, TooDear, QueueFull, DebtFull, TimeBack, TimeFar, ClockFull, PlanDue, FewPlaces, NothingPassed, BadVrate, UnknownKind, CutShort, WrongPhase, NotBelowRoot, ShortBuffer}
 use Rattle.rules.specs.declared.trace.Record.{Record}
 use Rattle.rules.specs.declared.trace.Record.TheVariants.{Node, Start}
-use Rattle.rules.specs.declared.trace.Read.TheVariants.{Found}
 use Rattle.rules.specs.declared.replay.Phase.TheVariants.{Setup, Priced}
 use Rattle.rules.specs.Bench.{bytes_of_all, M, tree, tree5, tree7}
 use Rattle.rules.specs.Bench.Edges.{Seen, see, chain, star}
+use Rattle.rules.specs.Results.{found}
 
 -- what is said on paper: the number, 0 where nothing is refused, and the node
 abbrev pub told : List Check → List ℕ
@@ -25,7 +25,7 @@ told ks = let p = verdict_paper (first_of ks) in p.number ∷ p.values
 
 -- the same of the rules of a tree alone, whether it is thin or not
 abbrev pub alone : Tree → List ℕ
-alone t = fault_number (tree_fault t) ∷ []
+alone t = cond (is_fault (tree_fault t)) (fault_number (fault_in (tree_fault t))) 0 ∷ []
 
 -- a tree with another parent, or another weight, at a node
 abbrev pub hung : ℕ → ℕ → Tree → Tree
@@ -129,9 +129,9 @@ faults =
     -- the longest of all fills its room
     ∷ see (length (refusal_line (BadTree (Level (2 ^ 64 - 1)))) ∷ []) (refusal_room ∷ [])
     -- R 20 0 of a 64th node record
-    ∷ see (stepped (Found (Node 255 0) 9) (within Setup (star 63) slowest (fresh tree5 M 0))).bytes (82 ∷ 32 ∷ 50 ∷ 48 ∷ 32 ∷ 48 ∷ 10 ∷ [])
+    ∷ see (stepped (found (Node 255 0) 9) (within Setup (star 63) slowest (fresh tree5 M 0))).bytes (82 ∷ 32 ∷ 50 ∷ 48 ∷ 32 ∷ 48 ∷ 10 ∷ [])
     -- and of a start without nodes
-    ∷ see (stepped (Found (Start 0) 9) (within Priced root_tree slowest (fresh tree5 M 0))).bytes (82 ∷ 32 ∷ 50 ∷ 48 ∷ 32 ∷ 48 ∷ 10 ∷ [])
+    ∷ see (stepped (found (Start 0) 9) (within Priced root_tree slowest (fresh tree5 M 0))).bytes (82 ∷ 32 ∷ 50 ∷ 48 ∷ 32 ∷ 48 ∷ 10 ∷ [])
     ∷ []
 
 -- ---- traces: the replay stops at the first faulty record, R 21 2, R 22 3, R 23 9

@@ -1,7 +1,7 @@
 -- Numbers of their own for flushes: what is one, what it costs wherever the last bio ended, what it leaves of its leaf, and a run in
 -- which flushes are issued, wait, go on debt and are refused.
 -- Assumes nothing.
-use Rattle.std.specs.Prelude.{true, List, [], ◌∷◌, ◌++◌, ℕ, ◌+◌, ◌-◌, ◌^◌, replicate, take}
+use Rattle.std.specs.Prelude.{true, List, [], ◌∷◌, ◌++◌, ℕ, ◌+◌, ◌-◌, ◌^◌, replicate, take, Err, Ok}
 use Rattle.rules.specs.Units.{abs, virt}
 use Rattle.rules.specs.Cost.{priced}
 use Rattle.rules.specs.Budget.{empty_row, fresh, row_at, queue_at, with_clock, with_sharing, with_books, put_leaf, with_budget, with_debt, with_end}
@@ -13,14 +13,12 @@ use Rattle.rules.specs.declared.cost.Model.{Model}
 use Rattle.rules.specs.declared.cost.Bio.{Bio}
 use Rattle.rules.specs.declared.budget.Row.{Row}
 use Rattle.rules.specs.declared.budget.Controller.{Controller}
-use Rattle.rules.specs.declared.refusals.Answer.{Answer}
-use Rattle.rules.specs.declared.refusals.Answer.TheVariants.{Issued, Waits, OnDebt, Refused as Declined}
-use Rattle.rules.specs.declared.refusals.Count.TheVariants.{Released}
-use Rattle.rules.specs.declared.refusals.Verdict.TheVariants.{Accepted}
+use Rattle.rules.specs.declared.refusals.Answer.TheVariants.{Issued, Waits, OnDebt}
 use Rattle.rules.specs.declared.refusals.Refusal.TheVariants.{BadBio, QueueFull}
 use Rattle.rules.specs.Bench.{at_zero, tree6, tree7}
 use Rattle.rules.specs.Bench.Run.{Move, left, run_tree, send, tick_to, plans}
 use Rattle.rules.specs.Bench.Edges.{Seen, see, leaf_numbers, queue_numbers, book_numbers, top, leaf1, leaf2, leaf3, heads, saved6, waits6, owes6}
+use Rattle.rules.specs.Results.{Answered}
 
 -- ---- ssd_dfl of the devices, whose six prices differ: a read's page, sequential base and random base are 8,383, 103,575 and
 -- 109,016, a write's 9,573, 25,204 and 36,006
@@ -149,62 +147,62 @@ flush_books =
     ∷ []
 
 -- ---- a run of leaf 1, alone, with the budget of each tick worked out to the last nanosecond
-abbrev pub flushed : ℕ → ℕ → ℕ → Answer → Move
+abbrev pub flushed : ℕ → ℕ → ℕ → Answered → Move
 flushed flags id sector answer = send 1 flags id sector 0 answer
 
 unfoldable pub flushing : List Move
 flushing =
     -- the first bio is a flush, which wakes its leaf, waits for 9,573 and is released
-    flushed 1 1 0 Waits
-    ∷ tick_to 9572 1 (Released 0) (0 ∷ [])
-    ∷ tick_to 9573 1 (Released 1) (1 ∷ [])
+    flushed 1 1 0 (Ok Waits)
+    ∷ tick_to 9572 1 (Ok 0) (0 ∷ [])
+    ∷ tick_to 9573 1 (Ok 1) (1 ∷ [])
     -- the read behind it is the leaf's first: 117,399, where a sequential one costs 111,958
-    ∷ send 1 0 2 0 4096 Waits
-    ∷ tick_to 121531 1 (Released 0) (0 ∷ [])
-    ∷ tick_to 126972 1 (Released 1) (2 ∷ [])
+    ∷ send 1 0 2 0 4096 (Ok Waits)
+    ∷ tick_to 121531 1 (Ok 0) (0 ∷ [])
+    ∷ tick_to 126972 1 (Ok 1) (2 ∷ [])
     -- a flush far away, between two sequential reads
-    ∷ flushed 1 3 1000000 Waits
-    ∷ tick_to 136545 1 (Released 1) (3 ∷ [])
-    ∷ send 1 0 4 8 4096 Waits
-    ∷ tick_to 248502 1 (Released 0) (0 ∷ [])
-    ∷ tick_to 248503 1 (Released 1) (4 ∷ [])
+    ∷ flushed 1 3 1000000 (Ok Waits)
+    ∷ tick_to 136545 1 (Ok 1) (3 ∷ [])
+    ∷ send 1 0 4 8 4096 (Ok Waits)
+    ∷ tick_to 248502 1 (Ok 0) (0 ∷ [])
+    ∷ tick_to 248503 1 (Ok 1) (4 ∷ [])
     -- on debt, behind it, and on debt again; four that are refused 5
-    ∷ flushed 3 5 16 OnDebt
-    ∷ flushed 1 6 16 Waits
-    ∷ flushed 3 7 5000000 OnDebt
-    ∷ flushed 0 8 16 (Declined BadBio)
-    ∷ flushed 2 8 16 (Declined BadBio)
-    ∷ flushed 1 8 (2 ^ 48 + 1) (Declined BadBio)
-    ∷ flushed 5 8 16 (Declined BadBio)
+    ∷ flushed 3 5 16 (Ok OnDebt)
+    ∷ flushed 1 6 16 (Ok Waits)
+    ∷ flushed 3 7 5000000 (Ok OnDebt)
+    ∷ flushed 0 8 16 (Err BadBio)
+    ∷ flushed 2 8 16 (Err BadBio)
+    ∷ flushed 1 8 (2 ^ 48 + 1) (Err BadBio)
+    ∷ flushed 5 8 16 (Err BadBio)
     -- the queue fills; a ninth is refused 7, and a forced one is not
-    ∷ flushed 1 9 (2 ^ 48) Waits
-    ∷ flushed 1 10 0 Waits
-    ∷ flushed 1 11 0 Waits
-    ∷ flushed 1 12 0 Waits
-    ∷ flushed 1 13 0 Waits
-    ∷ flushed 1 14 0 Waits
-    ∷ flushed 1 15 0 Waits
-    ∷ flushed 1 16 0 (Declined QueueFull)
-    ∷ flushed 3 17 0 OnDebt
+    ∷ flushed 1 9 (2 ^ 48) (Ok Waits)
+    ∷ flushed 1 10 0 (Ok Waits)
+    ∷ flushed 1 11 0 (Ok Waits)
+    ∷ flushed 1 12 0 (Ok Waits)
+    ∷ flushed 1 13 0 (Ok Waits)
+    ∷ flushed 1 14 0 (Ok Waits)
+    ∷ flushed 1 15 0 (Ok Waits)
+    ∷ flushed 1 16 0 (Err QueueFull)
+    ∷ flushed 3 17 0 (Ok OnDebt)
     -- three are repaid and eight released, for 105,303 in all
-    ∷ tick_to 353805 8 (Released 7) (6 ∷ 9 ∷ 10 ∷ 11 ∷ 12 ∷ 13 ∷ 14 ∷ 0 ∷ [])
-    ∷ tick_to 353806 1 (Released 1) (15 ∷ [])
+    ∷ tick_to 353805 8 (Ok 7) (6 ∷ 9 ∷ 10 ∷ 11 ∷ 12 ∷ 13 ∷ 14 ∷ 0 ∷ [])
+    ∷ tick_to 353806 1 (Ok 1) (15 ∷ [])
     -- issued; a plan closes all this
-    ∷ tick_to 363379 0 (Released 0) []
-    ∷ flushed 1 18 0 Issued
-    ∷ plans Accepted
+    ∷ tick_to 363379 0 (Ok 0) []
+    ∷ flushed 1 18 0 (Ok Issued)
+    ∷ plans (Ok tt)
     -- all that the leaf does up to the next plan is a flush, which is issued; up to the one behind it a flush that waits and is
     -- released; and up to the last it does nothing
-    ∷ tick_to 372952 0 (Released 0) []
-    ∷ flushed 3 19 0 Issued
-    ∷ tick_to 372953 0 (Released 0) []
-    ∷ plans Accepted
-    ∷ flushed 1 20 0 Waits
-    ∷ tick_to 382525 1 (Released 1) (20 ∷ [])
-    ∷ plans Accepted
-    ∷ tick_to 382526 0 (Released 0) []
-    ∷ plans Accepted
-    ∷ flushed 1 21 0 Waits
+    ∷ tick_to 372952 0 (Ok 0) []
+    ∷ flushed 3 19 0 (Ok Issued)
+    ∷ tick_to 372953 0 (Ok 0) []
+    ∷ plans (Ok tt)
+    ∷ flushed 1 20 0 (Ok Waits)
+    ∷ tick_to 382525 1 (Ok 1) (20 ∷ [])
+    ∷ plans (Ok tt)
+    ∷ tick_to 382526 0 (Ok 0) []
+    ∷ plans (Ok tt)
+    ∷ flushed 1 21 0 (Ok Waits)
     ∷ []
 
 unfoldable pub flush_begun : Controller

@@ -15,16 +15,16 @@ use Rattle.rules.specs.declared.cost.Bio.{Bio}
 use Rattle.rules.specs.declared.budget.Row.{Row}
 use Rattle.rules.specs.declared.budget.Own.{Own}
 use Rattle.rules.specs.declared.budget.Controller.{Controller}
-use Rattle.rules.specs.declared.refusals.Answer.{Answer}
 use Rattle.rules.specs.Bench.{M, tree5, tree7, bio}
 use Rattle.rules.specs.Bench.Run.{Reply, Move, run_rates}
 use Rattle.rules.specs.Bench.Edges.{Seen, see, book_numbers, heads, saved6, waits6, owes6}
+use Rattle.rules.specs.Results.{Answered}
 
 -- ---- by what is the leaf's own: a bio of flags, sector and bytes
 abbrev pub at : ℕ → ℕ → ℕ → Bio
 at flags sector bytes = record { node = 1; flags = flags; id = 7; sector = sector; bytes = bytes }
 
-abbrev pub says : Answer → List ℕ
+abbrev pub says : Answered → List ℕ
 says a = (answer_paper a).number ∷ (answer_paper a).values
 
 -- a leaf of a share on a device, with this row, at which so many wait

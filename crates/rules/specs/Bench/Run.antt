@@ -1,6 +1,6 @@
 -- A run: calls from a fresh start with answers of every kind, so that a promise about sound states is no empty one.
 -- Assumes nothing.
-use Rattle.std.specs.Prelude.{List, [], ◌∷◌, ◌++◌, ℕ, ◌-◌, replicate, take}
+use Rattle.std.specs.Prelude.{List, [], ◌∷◌, ◌++◌, ℕ, ◌-◌, replicate, take, Err, Ok}
 use Rattle.rules.specs.Numbers.{nodes_most}
 use Rattle.rules.specs.Units.{virt}
 use Rattle.rules.specs.Budget.{row_at, share_at, with_clock, with_times}
@@ -12,17 +12,13 @@ use Rattle.rules.specs.declared.tree.Tree.{Tree}
 use Rattle.rules.specs.declared.tree.Fault.TheVariants.{Weight}
 use Rattle.rules.specs.declared.budget.Controller.{Controller}
 use Rattle.rules.specs.declared.replay.Setting.TheVariants.{Vrate as SetVrate, Weight as SetWeight}
-use Rattle.rules.specs.declared.refusals.Answer.{Answer}
-use Rattle.rules.specs.declared.refusals.Answer.TheVariants.{Issued, Waits, OnDebt, Refused as Declined}
-use Rattle.rules.specs.declared.refusals.Count.{Count}
-use Rattle.rules.specs.declared.refusals.Count.TheVariants.{Released, Refused as Unticked}
-use Rattle.rules.specs.declared.refusals.Verdict.{Verdict}
-use Rattle.rules.specs.declared.refusals.Verdict.TheVariants.{Accepted, Refused}
+use Rattle.rules.specs.declared.refusals.Answer.TheVariants.{Issued, Waits, OnDebt}
 use Rattle.rules.specs.declared.refusals.Refusal.TheVariants.{NoLeaf, BadBio, TooDear, QueueFull, DebtFull, TimeBack, TimeFar, PlanDue, FewPlaces, NothingPassed, BadVrate, BadTree, NotBelowRoot}
+use Rattle.rules.specs.Results.{Count, Verdict, Answered}
 
 -- ---- each call with what it answers. Every state of the run is sound (`bench_run_is_sound` in Demand3/Sentences)
 pub data Reply : Type 0 where
-  to_bio : Answer → Reply
+  to_bio : Answered → Reply
   to_tick : Count → List ℕ → Reply
   to_other : Verdict → Reply
 
@@ -52,7 +48,7 @@ left [] c = c
 left (m ∷ ms) c = left ms (after m.call c)
 
 -- a bio of node, flags, id, sector and bytes; a tick to a time with so many places, each of which has 0
-abbrev pub send : ℕ → ℕ → ℕ → ℕ → ℕ → Answer → Move
+abbrev pub send : ℕ → ℕ → ℕ → ℕ → ℕ → Answered → Move
 send node flags id sector bytes answer = record {
   call = Call.submit (record { node = node; flags = flags; id = id; sector = sector; bytes = bytes });
   want = to_bio answer;
@@ -83,48 +79,48 @@ begun = (started run_tree run_rates 0).state
 unfoldable pub moves : List Move
 moves =
     -- nothing has passed and nobody is active yet; a write of three pages is too dear
-    plans (Refused NothingPassed)
-    ∷ rate 0 (Refused BadVrate)
-    ∷ send 0 0 1 0 4096 (Declined NoLeaf)
-    ∷ send 1 0 2 0 0 (Declined BadBio)
-    ∷ send 1 1 3 0 12288 (Declined TooDear)
+    plans (Err NothingPassed)
+    ∷ rate 0 (Err BadVrate)
+    ∷ send 0 0 1 0 4096 (Err NoLeaf)
+    ∷ send 1 0 2 0 0 (Err BadBio)
+    ∷ send 1 1 3 0 12288 (Err TooDear)
     -- both leaves wake, wait and are released; the times between are refused
-    ∷ send 1 0 4 0 4096 Waits
-    ∷ tick_to 100000 1 (Released 1) (4 ∷ [])
-    ∷ send 2 0 5 0 4096 Waits
-    ∷ tick_to 100000 0 (Unticked FewPlaces) []
-    ∷ tick_to 99999 1 (Unticked TimeBack) (0 ∷ [])
-    ∷ tick_to 1000100001 1 (Unticked TimeFar) (0 ∷ [])
-    ∷ tick_to 499999 2 (Released 1) (5 ∷ 0 ∷ [])
+    ∷ send 1 0 4 0 4096 (Ok Waits)
+    ∷ tick_to 100000 1 (Ok 1) (4 ∷ [])
+    ∷ send 2 0 5 0 4096 (Ok Waits)
+    ∷ tick_to 100000 0 (Err FewPlaces) []
+    ∷ tick_to 99999 1 (Err TimeBack) (0 ∷ [])
+    ∷ tick_to 1000100001 1 (Err TimeFar) (0 ∷ [])
+    ∷ tick_to 499999 2 (Ok 1) (5 ∷ 0 ∷ [])
     -- B9: a debt that a tick of 0 repays but for 1, and a tick of 1 clears
-    ∷ send 1 2 6 100000 4096 OnDebt
-    ∷ tick_to 499999 0 (Released 0) []
-    ∷ tick_to 500000 0 (Released 0) []
-    ∷ send 2 0 7 8 4096 Issued
+    ∷ send 1 2 6 100000 4096 (Ok OnDebt)
+    ∷ tick_to 499999 0 (Ok 0) []
+    ∷ tick_to 500000 0 (Ok 0) []
+    ∷ send 2 0 7 8 4096 (Ok Issued)
     -- a full queue; the plan makes the other leaf a donor, which then waits
-    ∷ send 1 0 8 0 4096 Waits
-    ∷ send 1 0 9 0 4096 Waits
-    ∷ send 1 0 10 0 4096 Waits
-    ∷ send 1 0 11 0 4096 Waits
-    ∷ send 1 0 12 0 4096 Waits
-    ∷ send 1 0 13 0 4096 Waits
-    ∷ send 1 0 14 0 4096 Waits
-    ∷ send 1 0 15 0 4096 Waits
-    ∷ send 1 0 16 0 4096 (Declined QueueFull)
-    ∷ plans Accepted
-    ∷ send 2 0 17 0 1048576 Waits
+    ∷ send 1 0 8 0 4096 (Ok Waits)
+    ∷ send 1 0 9 0 4096 (Ok Waits)
+    ∷ send 1 0 10 0 4096 (Ok Waits)
+    ∷ send 1 0 11 0 4096 (Ok Waits)
+    ∷ send 1 0 12 0 4096 (Ok Waits)
+    ∷ send 1 0 13 0 4096 (Ok Waits)
+    ∷ send 1 0 14 0 4096 (Ok Waits)
+    ∷ send 1 0 15 0 4096 (Ok Waits)
+    ∷ send 1 0 16 0 4096 (Err QueueFull)
+    ∷ plans (Ok tt)
+    ∷ send 2 0 17 0 1048576 (Ok Waits)
     -- four times as fast: all are released, by rising leaf, and a third second is too much for E
-    ∷ rate 400 Accepted
-    ∷ tick_to 1000500000 10 (Released 9) (8 ∷ 9 ∷ 10 ∷ 11 ∷ 12 ∷ 13 ∷ 14 ∷ 15 ∷ 17 ∷ 0 ∷ [])
-    ∷ tick_to 2000500000 0 (Released 0) []
-    ∷ tick_to 3000500000 0 (Unticked PlanDue) []
+    ∷ rate 400 (Ok tt)
+    ∷ tick_to 1000500000 10 (Ok 9) (8 ∷ 9 ∷ 10 ∷ 11 ∷ 12 ∷ 13 ∷ 14 ∷ 15 ∷ 17 ∷ 0 ∷ [])
+    ∷ tick_to 2000500000 0 (Ok 0) []
+    ∷ tick_to 3000500000 0 (Err PlanDue) []
     -- debt up to its limit, of which a quiet plan forgives half and a busy one nothing; the donor falls silent
-    ∷ replicate 549 (send 1 3 18 0 8192 OnDebt)
-    ++ (send 1 3 18 0 8192 (Declined DebtFull)
-    ∷ plans Accepted
-    ∷ tick_to 2000500001 0 (Released 0) []
-    ∷ plans Accepted
-    ∷ tick_to 2000500002 0 (Released 0) []
+    ∷ replicate 549 (send 1 3 18 0 8192 (Ok OnDebt))
+    ++ (send 1 3 18 0 8192 (Err DebtFull)
+    ∷ plans (Ok tt)
+    ∷ tick_to 2000500001 0 (Ok 0) []
+    ∷ plans (Ok tt)
+    ∷ tick_to 2000500002 0 (Ok 0) []
     ∷ [])
 
 -- what stands after the first k moves: the donation of the first plan, its end, the second plan, and what the run leaves
@@ -142,10 +138,10 @@ seen c =
 -- ---- weights, where the donation of the first plan stands: refused ones leave it, and an accepted one ends it
 unfoldable pub weights : List Move
 weights =
-    weigh 0 100 (Refused NotBelowRoot)
-    ∷ weigh 3 0 (Refused NotBelowRoot)
-    ∷ weigh 2 0 (Refused (BadTree (Weight 2)))
-    ∷ weigh 2 100 Accepted
+    weigh 0 100 (Err NotBelowRoot)
+    ∷ weigh 3 0 (Err NotBelowRoot)
+    ∷ weigh 2 0 (Err (BadTree (Weight 2)))
+    ∷ weigh 2 100 (Ok tt)
     ∷ []
 
 abbrev pub weights_up_to : ℕ → Controller

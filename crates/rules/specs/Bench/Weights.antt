@@ -10,11 +10,11 @@ use Rattle.rules.specs.Replay.{within, stepped}
 use Rattle.rules.specs.Ledger.{Call}
 use Rattle.rules.specs.declared.budget.Controller.{Controller}
 use Rattle.rules.specs.declared.trace.Record.TheVariants.{Node, Model as ModelOf, Start, Tick, Plan, Weight}
-use Rattle.rules.specs.declared.trace.Read.TheVariants.{Found}
 use Rattle.rules.specs.declared.replay.Phase.TheVariants.{Running}
 use Rattle.rules.specs.declared.replay.Setting.TheVariants.{Weight as SetWeight}
 use Rattle.rules.specs.Bench.{bytes_of_all, B, rates_M, M, tree5, tree6, tree7, Case}
 use Rattle.rules.specs.Bench.Edges.{gives, read, Seen, see, leaf_numbers, book_numbers, queue_numbers, saved6, owes6, leaf1, leaf2, leaf3, top, heads, asked}
+use Rattle.rules.specs.Results.{found}
 
 -- ---- when it is refused: 19 for the root and for what is not below it, before 22 for the weight, before 2 for a leaf that
 -- another one's weight makes thin; B7's tree with B8's weight is thin, and with B7's again it is not
@@ -76,7 +76,7 @@ weight_books =
     ∷ see (answered 4 1024 (with_tree (tree7 1023) saved6) ∷ then 4 1024 (with_tree (tree7 1023) saved6)) (2 ∷ top 6 4 ++ leaf1 ++ leaf2 ++ leaf3)
     ∷ see (weights_of (weighted 1 0 saved6).state) (0 ∷ 100 ∷ 100 ∷ 100 ∷ [])
     -- the tree that a trace's setup gave stays what it was
-    ∷ see (take 4 (stepped (Found (Weight 1 300) 9) (within Running tree6 slowest saved6)).replay.tree.weights) (0 ∷ 100 ∷ 100 ∷ 100 ∷ [])
+    ∷ see (take 4 (stepped (found (Weight 1 300) 9) (within Running tree6 slowest saved6)).replay.tree.weights) (0 ∷ 100 ∷ 100 ∷ 100 ∷ [])
     -- the ledger: it counts nothing
     ∷ see (heads (Call.set (SetWeight 1 300)) owes6 1) (replicate 6 0)
     ∷ []

@@ -1,7 +1,7 @@
 -- Each head of the ledger is what the answers and the states say, of one call upon any sound state: whose bios are released,
 -- which ids are written where, what counts as issued, what is repaid, forgiven and generated, and that a refusal counts nothing.
 -- Assumes nothing.
-use Rattle.std.specs.Prelude.{◌≡◌, length}
+use Rattle.std.specs.Prelude.{◌≡◌, length, Err}
 use Prim.Native.Nat.{ℕ}
 use Rattle.rules.specs.Tick.{turn_of}
 use Rattle.rules.specs.Question.{question}
@@ -10,9 +10,6 @@ use Rattle.rules.specs.Ledger.{Call, after, accepted, issued, released, repaid, 
 use Rattle.rules.specs.declared.units.Virt.{Virt}
 use Rattle.rules.specs.declared.budget.Controller.{Controller}
 use Rattle.rules.specs.declared.refusals.Refusal.{Refusal}
-use Rattle.rules.specs.declared.refusals.Verdict.TheVariants.{Refused}
-use Rattle.rules.specs.declared.refusals.Answer.TheVariants.{Refused as Declined}
-use Rattle.rules.specs.declared.refusals.Count.TheVariants.{Refused as Unticked}
 
 -- ---- released: how many bios leaf n releases, and which
 abbrev pub how_many : Virt → Controller → ℕ → ℕ
@@ -27,11 +24,11 @@ pub record SameClockAndTree (c d : Controller) : Type 0 where
 -- ---- a refused call: nothing in any head, and the state stays; the buffer too, by `a_refused_tick_changes_nothing`
 -- the answer of the call is this refusal
 abbrev pub Refuses : Call → Controller → Refusal → Type 0
-Refuses (Call.submit b) c x = (submitted b c).answer ≡ Declined x
-Refuses (Call.ask b) c x = question b c ≡ Declined x
-Refuses (Call.tick time lent) c x = (ticked time lent c).answer ≡ Unticked x
-Refuses Call.plan c x = (planned c).answer ≡ Refused x
-Refuses (Call.set s) c x = (set_by s c).answer ≡ Refused x
+Refuses (Call.submit b) c x = (submitted b c).answer ≡ Err x
+Refuses (Call.ask b) c x = question b c ≡ Err x
+Refuses (Call.tick time lent) c x = (ticked time lent c).answer ≡ Err x
+Refuses Call.plan c x = (planned c).answer ≡ Err x
+Refuses (Call.set s) c x = (set_by s c).answer ≡ Err x
 
 pub record CountsNothing (k : Call) (c : Controller) : Type 0 where
   pub state_stays : after k c ≡ c

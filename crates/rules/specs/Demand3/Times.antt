@@ -1,12 +1,11 @@
 -- Virtual time over any list of calls: ticks round nothing away between them, however often they come.
 -- Assumes nothing.
-use Rattle.std.specs.Prelude.{◌≡◌, Bool, true, false, List, [], ◌∷◌, ℕ, length}
+use Rattle.std.specs.Prelude.{◌≡◌, Bool, true, false, List, [], ◌∷◌, ℕ, length, Err, Ok}
 use Rattle.rules.specs.Refusals.{first_of, tick_checks}
 use Rattle.rules.specs.Ledger.{Call, after}
 use Rattle.rules.specs.declared.budget.Controller.{Controller}
 use Rattle.rules.specs.declared.replay.Setting.TheVariants.{Vrate, Weight}
-use Rattle.rules.specs.declared.refusals.Verdict.{Verdict}
-use Rattle.rules.specs.declared.refusals.Verdict.TheVariants.{Accepted, Refused}
+use Rattle.rules.specs.Results.{Verdict}
 
 -- ---- with vrate unchanged
 -- vrate is v at every moment (DECISIONS 68)
@@ -29,8 +28,8 @@ NoVrate (k ∷ ks) = (sets_vrate k ≡ false) × NoVrate ks
 
 -- the clock's time is that of the last accepted tick
 abbrev pub if_ticked : Verdict → ℕ → ℕ → ℕ
-if_ticked Accepted time before = time
-if_ticked (Refused x) time before = before
+if_ticked (Ok tt) time before = time
+if_ticked (Err x) time before = before
 
 abbrev pub time_after : Call → Controller → ℕ
 time_after (Call.submit b) c = c.clock.time

@@ -1,7 +1,7 @@
 -- A trace's run is demand 3's run: from its start on, a replay goes through the states that the calls in the trace give, refused
 -- ones too, so what is said of every list of calls is said of every trace replayed.
 -- Assumes nothing.
-use Rattle.std.specs.Prelude.{cond}
+use Rattle.std.specs.Prelude.{cond, Err, None, Ok, Some}
 use mathlib.Core.List.{List, [], ◌∷◌, ◌++◌}
 use Prim.Native.Nat.{ℕ, zero, suc}
 use Rattle.rules.specs.Entries.{started}
@@ -14,23 +14,26 @@ use Rattle.rules.specs.declared.cost.Rates.{Rates}
 use Rattle.rules.specs.declared.tree.Tree.{Tree}
 use Rattle.rules.specs.declared.budget.Controller.{Controller}
 use Rattle.rules.specs.declared.trace.Record.TheVariants.{Node, Model as ModelOf, Start, Bio as BioOf, Tick, Plan, Vrate, Weight}
-use Rattle.rules.specs.declared.trace.Read.{Read}
-use Rattle.rules.specs.declared.trace.Read.TheVariants.{Found, End, Refused as Unread}
 use Rattle.rules.specs.declared.replay.Replay.{Replay}
 use Rattle.rules.specs.declared.replay.Setting.TheVariants.{Vrate as SetVrate, Weight as SetWeight}
+use Rattle.rules.specs.Results.{Read}
+use Rattle.rules.specs.declared.trace.Record.{Record}
 
 -- ---- the calls that a trace holds: of the record that is read at a place, and from a place on, at most so many
+unfoldable pub calls_by : Record → List Call
+calls_by (Node p w) = []
+calls_by (ModelOf r) = []
+calls_by (Start time) = []
+calls_by (BioOf b) = Call.submit b ∷ []
+calls_by (Tick time) = Call.tick time all_room ∷ []
+calls_by Plan = Call.plan ∷ []
+calls_by (Vrate v) = Call.set (SetVrate v) ∷ []
+calls_by (Weight n w) = Call.set (SetWeight n w) ∷ []
+
 unfoldable pub calls_in : Read → List Call
-calls_in (Found (Node p w) next) = []
-calls_in (Found (ModelOf r) next) = []
-calls_in (Found (Start time) next) = []
-calls_in (Found (BioOf b) next) = Call.submit b ∷ []
-calls_in (Found (Tick time) next) = Call.tick time all_room ∷ []
-calls_in (Found Plan next) = Call.plan ∷ []
-calls_in (Found (Vrate v) next) = Call.set (SetVrate v) ∷ []
-calls_in (Found (Weight n w) next) = Call.set (SetWeight n w) ∷ []
-calls_in End = []
-calls_in (Unread x) = []
+calls_in (Ok (Some f)) = calls_by f.item
+calls_in (Ok None) = []
+calls_in (Err x) = []
 
 -- behind a record that is no call there are none: the replay has stopped
 unfoldable pub calls_from : ℕ → List ℕ → ℕ → List Call

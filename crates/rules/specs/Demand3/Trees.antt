@@ -1,19 +1,18 @@
 -- The tree in force: that of start with the weights that were accepted since, each in the place of the one before. The base shares
 -- of demand 3 are those of this tree, and no call moves a node.
 -- Assumes nothing.
-use Rattle.std.specs.Prelude.{◌≡◌, List, [], ◌∷◌, ℕ}
+use Rattle.std.specs.Prelude.{◌≡◌, List, [], ◌∷◌, ℕ, Err, Ok}
 use Rattle.rules.specs.Tree.{with_weight}
 use Rattle.rules.specs.Refusals.{first_of, weight_checks}
 use Rattle.rules.specs.Ledger.{Call}
 use Rattle.rules.specs.declared.tree.Tree.{Tree}
 use Rattle.rules.specs.declared.replay.Setting.TheVariants.{Vrate, Weight}
-use Rattle.rules.specs.declared.refusals.Verdict.{Verdict}
-use Rattle.rules.specs.declared.refusals.Verdict.TheVariants.{Accepted, Refused}
+use Rattle.rules.specs.Results.{Verdict}
 
 -- ---- one call: a weight that is not refused is set, and no other call touches the tree
 abbrev pub weight_by : Verdict → ℕ → ℕ → Tree → Tree
-weight_by Accepted n w t = with_weight n w t
-weight_by (Refused x) n w t = t
+weight_by (Ok tt) n w t = with_weight n w t
+weight_by (Err x) n w t = t
 
 abbrev pub tree_after : Call → Tree → Tree
 tree_after (Call.submit b) t = t

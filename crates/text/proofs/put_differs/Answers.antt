@@ -34,16 +34,16 @@ done {number = n} {first = first} {second = second} {r = r} {s = s} {o₀ = o₀
 
 pub returns : goal.returns
 returns c =
-    let p : Parts c.args.number c.args.first c.args.second c.args.r c.args.s c.args.out.now c.put_worded-head.new.out
-    c.put_before-left.new.out c.put_before-right.new.out c.put_worded-head.result c.put_before-left.result
-    c.put_before-right.result =
+    let p : Parts c.args.number c.args.first c.args.second c.args.r c.args.s c.args.out.now c.put_worded-at.new.out
+    c.put_before-at.new.out c.put_before-at-2.new.out c.put_worded-at.result c.put_before-at.result
+    c.put_before-at-2.result =
     record {
-      numbers = c.put_worded-head.ensures.0;
-      numbers_few = c.put_worded-head.ensures.1;
-      one = c.put_before-left.ensures.0;
-      one_few = c.put_before-left.ensures.1;
-      two = c.put_before-right.ensures.0;
-      two_few = c.put_before-right.ensures.1;
+      numbers = c.put_worded-at.ensures.0;
+      numbers_few = c.put_worded-at.ensures.1;
+      one = c.put_before-at.ensures.0;
+      one_few = c.put_before-at.ensures.1;
+      two = c.put_before-at-2.ensures.0;
+      two_few = c.put_before-at-2.ensures.1;
     } in
     let all = done c.requires p in
     (all.0.front, all.1)

@@ -1,10 +1,7 @@
--- `often::sent_often` meets its contract: the state stays sound from submission to submission. The measure is how many are left.
+-- `often::sent_often`: the state stays sound from submission to submission.
 -- Assumes nothing.
 use Rattle.rules.specs.Invariant.{Sound}
 use Rattle.asks.proofs.often.sent_often.Given as goal
 
-abbrev pub invariant-loop-left : goal.invariant-loop-left
-invariant-loop-left l = Sound l.state
-
-abbrev pub decreases-loop-left : goal.decreases-loop-left
-decreases-loop-left l = l.left
+abbrev pub invariant-loop : goal.invariant-loop
+invariant-loop l = Sound l.c

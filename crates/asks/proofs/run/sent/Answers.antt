@@ -4,4 +4,4 @@ use Rattle.rules.proofs.Laws.Submits.{submit_keeps}
 use Rattle.asks.proofs.run.sent.Goals as goal
 
 pub returns : goal.returns
-returns c = rw c.submit-done.ensures.value (submit_keeps c.requires _)
+returns c = rw c.submit_to-answered.ensures.1 (submit_keeps c.requires _)

@@ -4,4 +4,4 @@ use Rattle.rules.proofs.Laws.Starts.{start_gives}
 use Rattle.asks.proofs.states.fresh.Goals as goal
 
 pub returns : goal.returns
-returns c = rw c.start-done.ensures.value (start_gives _ _ _)
+returns c = rw c.start.ensures.value (start_gives _ _ _)

@@ -1,42 +1,39 @@
--- `comparison::both::step` meets its contract: each answer is that of what stands at both places.
+-- `comparison::both::step` meets its contract: a record that was found lies inside its trace.
 -- Assumes nothing.
-use mathlib.Core.Path.{◌≡◌, refl, sym, ◌∙◌}
-use mathlib.Core.List.{List}
-use Prim.Native.Nat.{ℕ}
-use Rattle.comparison.specs.Compare.{extent_at, step_by, step_at}
-use Rattle.comparison.specs.declared.Extent.{Extent}
+use Rattle.std.proofs.Common.{rules, ◌≡◌, ℕ, ◌≤◌, List, length, Option, Some, Result, Ok, Err, sym, ap, ◌∙◌, arith}
+use Rattle.rules.proofs.Laws.Bools.{never}
+use Rattle.trace.specs.Extents.{extent_at}
+use Rattle.trace.specs.declared.decoder.Whole.{Whole}
+use Rattle.comparison.specs.Compare.{Extent, found_by}
+use Rattle.comparison.proofs.Laws.Steps.{whole_at}
+use Rattle.comparison.specs.declared.Side.{Side}
+use Rattle.comparison.specs.declared.Error.{Error}
 use Rattle.comparison.proofs.both.step.Goals as goal
 
--- the step by what the two calls answered
-by : (first : List ℕ) (p : ℕ) (second : List ℕ) (q : ℕ) {d₀ e₀ : Extent} (d e : Extent) → d₀ ≡ extent_at first p → e₀ ≡ extent_at second q
-    → d₀ ≡ d → e₀ ≡ e → step_by first p d second q e ≡ step_at first p second q
-unfolding step_at
-by first p second q d e f g h k = rw (sym h ∙ f, sym k ∙ g)
+found_is : (side : Side) (at : ℕ) (e : Extent) {o : Option Whole} → found_by side at e ≡ Ok o → e ≡ Ok o
+found_is side at (Ok found) f = cc
+found_is side at (Err x) f = never (cc)
 
-pub pair-requires : goal.pair-requires
-pair-requires c =
-    (sym c.extent-d.ensures ∙ c.in-Whole.is, sym c.extent-e.ensures ∙ c.in-Whole-e-2.is)
+inside : (side : Side) (trace : List ℕ) (at : ℕ) {r : Result (Option Whole) Error} {o : Option Whole} {w : Whole}
+    → r ≡ found_by side at (extent_at trace at) → r ≡ Ok o → o ≡ Some w → (at ≤ w.next) × (w.next ≤ length trace)
+inside side trace at told f g =
+    let w = whole_at trace at (found_is side at (extent_at trace at) (sym told ∙ f) ∙ ap Ok g) in
+    (omega (arith, w.onward), w.within)
 
-pub returns-in-Refused : goal.returns-in-Refused
-unfolding step_by
-returns-in-Refused c = by _ _ _ _ _ c.extent-e.result c.extent-d.ensures c.extent-e.ensures c.in-Refused.is refl
+pub slice_bounds-eq-count : goal.slice_bounds-eq-count
+slice_bounds-eq-count c = (inside _ _ _ c.found.ensures c.in_ok-here.was c.in-Some-Some.is-0).0
 
-pub returns-in-Refused-e : goal.returns-in-Refused-e
-unfolding step_by
-returns-in-Refused-e c = by _ _ _ _ _ _ c.extent-d.ensures c.extent-e.ensures c.in-End.is c.in-Refused-e.is
+pub slice_bounds-eq-start : goal.slice_bounds-eq-start
+slice_bounds-eq-start c = let fits = inside _ _ _ c.found.ensures c.in_ok-here.was c.in-Some-Some.is-0 in search rules
 
-pub returns-in-End-e : goal.returns-in-End-e
-unfolding step_by
-returns-in-End-e c = by _ _ _ _ _ _ c.extent-d.ensures c.extent-e.ensures c.in-End.is c.in-End-e.is
+pub slice_bounds-eq-end : goal.slice_bounds-eq-end
+slice_bounds-eq-end c = let fits = inside _ _ _ c.found.ensures c.in_ok-here.was c.in-Some-Some.is-0 in search rules
 
-pub returns-in-Whole-e : goal.returns-in-Whole-e
-unfolding step_by
-returns-in-Whole-e c = by _ _ _ _ _ _ c.extent-d.ensures c.extent-e.ensures c.in-End.is c.in-Whole-e.is
+pub slice_bounds-eq-count-in-Some-Some : goal.slice_bounds-eq-count-in-Some-Some
+slice_bounds-eq-count-in-Some-Some c = (inside _ _ _ c.found-2.ensures c.in_ok-there.was c.in-Some-Some.is-1).0
 
-pub returns-in-Refused-e-2 : goal.returns-in-Refused-e-2
-unfolding step_by
-returns-in-Refused-e-2 c = by _ _ _ _ _ _ c.extent-d.ensures c.extent-e.ensures c.in-Whole.is c.in-Refused-e-2.is
+pub slice_bounds-eq-start-in-Some-Some : goal.slice_bounds-eq-start-in-Some-Some
+slice_bounds-eq-start-in-Some-Some c = let fits = inside _ _ _ c.found-2.ensures c.in_ok-there.was c.in-Some-Some.is-1 in search rules
 
-pub returns-in-End-e-2 : goal.returns-in-End-e-2
-unfolding step_by
-returns-in-End-e-2 c = by _ _ _ _ _ _ c.extent-d.ensures c.extent-e.ensures c.in-Whole.is c.in-End-e-2.is
+pub slice_bounds-eq-end-in-Some-Some : goal.slice_bounds-eq-end-in-Some-Some
+slice_bounds-eq-end-in-Some-Some c = let fits = inside _ _ _ c.found-2.ensures c.in_ok-there.was c.in-Some-Some.is-1 in search rules

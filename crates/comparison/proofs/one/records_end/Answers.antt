@@ -1,39 +1,21 @@
--- `comparison::one::records_end` meets its contract: what is left to pass is the same at each place, and each record takes a
--- byte at least.
+-- `comparison::one::records_end` meets its contract: each whole record goes on, and stays inside.
 -- Assumes nothing.
-use mathlib.Core.Path.{◌≡◌, refl, sym, ap, ◌∙◌}
-use mathlib.Core.Bool.{false}
-use mathlib.Core.List.{List}
-use Prim.Native.Nat.{ℕ, suc}
-use native.Mathlib.Omega.{arith}
-use lib.ListN.{length}
-use Rattle.comparison.specs.Compare.{extent_at, is_whole, records_end}
-use Rattle.comparison.proofs.Laws.Steps.{whole_at, records_end_here, records_end_on}
+use Rattle.std.proofs.Common.{◌≡◌, ℕ, List, Option, Some, Ok, sym, ap, ◌∙◌, arith}
+use Rattle.trace.specs.Extents.{extent_at}
+use Rattle.trace.specs.declared.decoder.Whole.{Whole}
+use Rattle.comparison.specs.Compare.{Extent}
+use Rattle.comparison.proofs.Laws.Steps.{WholeAt, whole_at, records_end_on}
 use Rattle.comparison.proofs.one.records_end.Goals as goal
 
--- nothing more is passed where no whole record stands
-ends : (trace : List ℕ) (at : ℕ) → is_whole (extent_at trace at) ≡ false → at ≡ records_end trace at
-unfolding records_end
-ends trace at e = sym (records_end_here trace (suc (length trace)) at e)
+whole : (trace : List ℕ) (at : ℕ) {e : Extent} {o : Option Whole} {w : Whole} → e ≡ extent_at trace at → e ≡ Ok o → o ≡ Some w → WholeAt trace at w
+whole trace at told f g = whole_at trace at (sym told ∙ f ∙ ap Ok g)
 
-pub loop-next-init : goal.loop-next-init
-loop-next-init c = (refl, c.requires)
-
-pub loop-next-smaller : goal.loop-next-smaller
-loop-next-smaller c =
-    let w = whole_at c.args.trace.now c.loop-next.at (sym c.extent.ensures ∙ c.in-Whole.is) in
+pub loop-whole-smaller : goal.loop-whole-smaller
+loop-whole-smaller c =
+    let w = whole _ _ c.extent.ensures c.in-Ok-Some.is c.in-Ok-Some.field-0-is in
     omega (arith, w.onward, w.within)
 
-pub loop-next-preserved : goal.loop-next-preserved
-loop-next-preserved c =
-    let here = sym c.extent.ensures ∙ c.in-Whole.is in
-    let w = whole_at c.args.trace.now c.loop-next.at here in
-    (sym (records_end_on c.args.trace.now c.loop-next.at here) ∙ c.loop-next.invariant.0, w.within)
-
-pub returns-in-End : goal.returns-in-End
-returns-in-End c =
-    (ends c.args.trace.now c.loop-next.at (sym (ap is_whole c.extent.ensures) ∙ ap is_whole c.in-End.is) ∙ c.loop-next.invariant.0, c.loop-next.invariant.1)
-
-pub returns-in-Refused : goal.returns-in-Refused
-returns-in-Refused c =
-    (ends c.args.trace.now c.loop-next.at (sym (ap is_whole c.extent.ensures) ∙ ap is_whole c.in-Refused.is) ∙ c.loop-next.invariant.0, c.loop-next.invariant.1)
+pub loop-whole-preserved : goal.loop-whole-preserved
+loop-whole-preserved c =
+    let w = whole _ _ c.extent.ensures c.in-Ok-Some.is c.in-Ok-Some.field-0-is in
+    (sym (records_end_on _ _ w.extent) ∙ c.loop-whole.invariant.0, w.within)

@@ -1,11 +1,7 @@
 -- `rebudgeted` meets its contract. The invariant: the rows below n have their scaled budgets, the others are as they came.
 -- Assumes nothing.
-use mathlib.Core.Path.{◌≡◌, refl}
-use mathlib.Core.List.{List}
-use Prim.Native.Nat.{ℕ, ◌+◌, ◌*◌, ◌^◌, ◌≤◌, ◌<◌}
-use native.Mathlib.Omega.{arith}
-use borrow.Author.Rules.{rules}
-use lib.ListN.{length, get_or, set}
+use Rattle.std.proofs.Common.{◌≡◌, List, ℕ, ◌+◌, ◌*◌, ◌^◌, ◌≤◌, ◌<◌, arith, rules, length, get_or}
+use lib.ListN.{set}
 use Rattle.rules.specs.Words.{table}
 use Rattle.rules.specs.Budget.{empty_row, with_budget, rebudget}
 use Rattle.rules.proofs.Laws.Sweeps.{swept, place_here, place_put, places_done}
@@ -24,25 +20,19 @@ module _ (before after : List ℕ) (rows s : List Row) (n : ℕ) (full : length 
       → set s n (with_budget b (get_or s n empty_row)) ≡ swept (table (scaled before after rows)) rows (n + 1)
   step b same = place_put (scaled before after rows) rows s n empty_row full e h (with_budget b (get_or s n empty_row)) (rw (same, here))
 
-pub loop-n-init : goal.loop-n-init
-loop-n-init c = (search rules, refl)
-
 -- above the needs that a lie about it may leave true: the first error is what is false
 pub loop-n-preserved : goal.loop-n-preserved
-loop-n-preserved c = (
-  omega arith,
-  step c.args.before.now c.args.after.now c.args.rows c.loop-n.next c.loop-n.n (search rules) c.loop-n.invariant.1 (search rules)
-      c.rebudget-scaled.result
-      (rw (← c.wide.ensures, ← c.wide-in-loop-n.ensures) c.rebudget-scaled.ensures),
-)
+loop-n-preserved c =
+    step c.args.before.now c.args.after.now c.args.rows c.loop-n.row-items c.loop-n.n (search rules) c.loop-n.invariant (search rules)
+    c.rebudget-row.result (rw (← c.from.ensures, ← c.from-in-loop-n.ensures) c.rebudget-row.ensures)
 
-pub rebudget-scaled-requires : goal.rebudget-scaled-requires
-rebudget-scaled-requires c =
-    let same = here c.args.before.now c.args.after.now c.args.rows c.loop-n.next c.loop-n.n (search rules) c.loop-n.invariant.1 (search rules) in
+pub rebudget-row-requires : goal.rebudget-row-requires
+rebudget-row-requires c =
+    let same = here c.args.before.now c.args.after.now c.args.rows c.loop-n.row-items c.loop-n.n (search rules) c.loop-n.invariant (search rules) in
     let fits : (get_or c.args.rows c.loop-n.n empty_row).budget.0 * get_or c.args.before.now c.loop-n.n 0 ≤ 2 ^ 61 + 2 ^ 30 = c.requires c.loop-n.n in
-    rw (c.wide.ensures, same) (omega arith)
+    rw (c.from.ensures, same) (omega arith)
 
 pub returns : goal.returns
 returns c =
     places_done (scaled c.args.before.now c.args.after.now c.args.rows)
-    c.args.rows c.loop-n.next c.loop-n.n (search rules) c.loop-n.invariant.1 (omega arith)
+    c.args.rows c.loop-n.row-items c.loop-n.n (search rules) c.loop-n.invariant (omega arith)

@@ -11,7 +11,7 @@ unfolding vrate_checks
 returns-then-in_range c =
     let e : vrate_in_range c.args.v ≡ true = sym c.in_range.ensures ∙ c.if-in_range.true in rw e
 
-pub returns : goal.returns
+pub returns-else-in_range : goal.returns-else-in_range
 unfolding vrate_checks
-returns c =
+returns-else-in_range c =
     let e : vrate_in_range c.args.v ≡ false = sym c.in_range.ensures ∙ c.if-in_range.false in rw e

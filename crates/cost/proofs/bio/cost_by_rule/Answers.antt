@@ -3,7 +3,6 @@
 use mathlib.Core.Path.{◌≡◌, sym, ◌∙◌}
 use mathlib.Core.Bool.{Bool, true, false, cond}
 use Rattle.rules.specs.Cost.{is_write, is_flush, is_sequential, cost_at, cost_of}
-use Rattle.rules.proofs.Laws.Costs.{price_of_bio_sound}
 use Rattle.rules.specs.declared.units.Abs.{Abs}
 use Rattle.rules.specs.declared.cost.Price.{Price}
 use Rattle.rules.specs.declared.cost.Model.{Model}
@@ -21,12 +20,6 @@ module _ (m : Model) (row : Row) (b : Bio) where
       → cost ≡ cost_of m row b
   unfolding cost_of
   found price sequential cost f p q e = rw (f, ← q, ← p) e
-
-pub cost_at-requires : goal.cost_at-requires
-cost_at-requires c = (
-  rw c.price_for-price.ensures (price_of_bio_sound c.requires.0 (is_write c.args.bio)),
-  c.requires.1,
-)
 
 pub returns-then-is_flush : goal.returns-then-is_flush
 returns-then-is_flush c = flushed _ _ _ (sym c.is_flush.ensures ∙ c.if-is_flush.true)

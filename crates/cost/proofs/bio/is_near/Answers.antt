@@ -1,38 +1,23 @@
 -- `cost::bio::is_near` meets its contract: of the rule's two tests the one on the nearer side always holds, and the other is the code's.
 -- Assumes nothing.
-use mathlib.Core.Path.{◌≡◌, refl}
-use mathlib.Core.Bool.{Bool, true, false, ◌&&◌}
-use Prim.Native.Nat.{ℕ, ◌+◌, ◌-◌, ◌≤◌, ◌<◌}
-use native.Mathlib.Omega.{arith}
-use lib.Dec.{leb}
+use Rattle.std.proofs.Common.{◌≡◌, ◌&&◌, ℕ, ◌+◌, ◌-◌, ◌≤◌, leb, arith}
 use borrow.Author.Tests.{leb-true, le-leb}
 use Rattle.rules.specs.Numbers.{near_most}
 use Rattle.rules.specs.Cost.{is_near}
-use Rattle.rules.proofs.Laws.Bools.{same_test}
+use Rattle.rules.proofs.Laws.Bools.{same_test, and_left, and_right, and_both}
 use Rattle.cost.proofs.bio.is_near.Goals as goal
 
--- a difference of at most nearMost
-apart : (x y : ℕ) → x ≤ y → leb (y - x) near_most ≡ leb y (x + near_most)
-apart x y l =
+apart : (x y : ℕ) → leb (x - y + (y - x)) near_most ≡ is_near x y
+unfolding is_near
+apart x y =
     same_test _ _
-    (λ e. le-leb y (x + near_most) (omega (arith, leb-true (y - x) near_most e)))
-    (λ e. le-leb (y - x) near_most (omega (arith, leb-true y (x + near_most) e)))
+    (λ e.
+    let l = leb-true (x - y + (y - x)) near_most e in
+    and_both (leb x (y + near_most)) (leb y (x + near_most)) (le-leb x (y + near_most) (omega arith)) (le-leb y (x + near_most) (omega arith)))
+    (λ e.
+    let l = leb-true x (y + near_most) (and_left (leb x (y + near_most)) (leb y (x + near_most)) e) in
+    let m = leb-true y (x + near_most) (and_right (leb x (y + near_most)) (leb y (x + near_most)) e) in
+    le-leb (x - y + (y - x)) near_most (omega arith))
 
-and-true : (b : Bool) → b ≡ (b && true)
-and-true true = refl
-and-true false = refl
-
-behind : (sector end : ℕ) → sector < end → leb (end - sector) near_most ≡ is_near sector end
-unfolding is_near
-behind sector end l = rw (le-leb sector (end + near_most) (omega arith)) (apart sector end (omega arith))
-
-ahead : (sector end : ℕ) → end ≤ sector → leb (sector - end) near_most ≡ is_near sector end
-unfolding is_near
-ahead sector end l =
-    rw (le-leb end (sector + near_most) (omega arith), apart end sector l) (and-true (leb sector (end + near_most)))
-
-pub returns-then-sector-end : goal.returns-then-sector-end
-returns-then-sector-end c = behind _ _ c.if-sector-end.true
-
-pub returns-else-sector-end : goal.returns-else-sector-end
-returns-else-sector-end c = ahead _ _ c.if-sector-end.false
+pub returns : goal.returns
+returns c = rw c.abs_diff.ensures (apart c.args.sector c.args.end)

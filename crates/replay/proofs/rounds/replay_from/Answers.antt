@@ -1,8 +1,8 @@
--- `replay::rounds::replay_from` is safe and ends: the measure is the number of rounds that are left, and it stands well from round to round.
+-- `replay::rounds::replay_from` meets its contract, by what `run` ensures from the beginning.
 -- Assumes nothing.
-use Rattle.std.proofs.Common.{arith}
+use Rattle.std.proofs.Common.{refl}
+use Rattle.replay.proofs.Round.{from_the_beginning}
 use Rattle.replay.proofs.rounds.replay_from.Goals as goal
 
-pub loop-rounds-preserved : goal.loop-rounds-preserved
-loop-rounds-preserved g c =
-    (c.round-s.ensures.stands, omega (arith, c.round-s.auto.chunk), omega (arith, c.round-s.auto.out))
+pub returns : goal.returns
+returns g c = from_the_beginning c.run-end.result _ _ _ _ c.beginning.ensures.0 refl c.run-end.ensures

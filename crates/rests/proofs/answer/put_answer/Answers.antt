@@ -3,14 +3,13 @@
 use Rattle.std.proofs.Common.{◌≡◌, List, ◌++◌, ℕ, length, arith}
 use Rattle.rules.specs.Buffers.{Written, Stands}
 use Rattle.rules.proofs.Laws.Buffers.{stands_more}
-use Rattle.comparison.specs.Compare.{compared, rest_of}
-use Rattle.comparison.specs.declared.Comparison.{Comparison}
+use Rattle.comparison.specs.Compare.{Told, compared, rest_of}
 use Rattle.text.specs.Lines.{rest_length_line}
 use Rattle.rests.specs.Answer.{found_lines, answer_lines}
 use Rattle.rests.proofs.answer.put_answer.Goals as goal
 
 -- the lines of what was found and of a rest that was handed back are those of the answer
-answered : (first second : List ℕ) (from : ℕ) {c : Comparison} {r : List ℕ} (n : ℕ) (o₀ o : List ℕ) → c ≡ compared first second from → r ≡ rest_of first second
+answered : (first second : List ℕ) (from : ℕ) {c : Told} {r : List ℕ} (n : ℕ) (o₀ o : List ℕ) → c ≡ compared first second from → r ≡ rest_of first second
     → Written (found_lines c ++ rest_length_line (length r)) n o₀ o → Written (answer_lines first second from) n o₀ o
 unfolding answer_lines
 answered first second from n o₀ o e f w = rw (← e, ← f) w

@@ -9,8 +9,8 @@ use Rattle.rests.proofs.answer.tell_records.Given as goal
 abbrev pub Whole : List ℕ → ℕ → Type 0
 Whole trace at = (rs : List (List ℕ)) × Records trace at rs
 
-abbrev pub invariant-loop-r : goal.invariant-loop-r
-invariant-loop-r g l = (length l.out ≡ length l.initial.out) × ((l.at ≤ length l.records) × Whole l.records l.at)
+abbrev pub invariant-loop-found : goal.invariant-loop-found
+invariant-loop-found g l = (length l.out ≡ length l.initial.out) × ((l.at ≤ length l.records) × Whole l.records l.at)
 
-abbrev pub decreases-loop-r : goal.decreases-loop-r
-decreases-loop-r g l = length l.records - l.at
+abbrev pub decreases-loop-found : goal.decreases-loop-found
+decreases-loop-found g l = length l.records - l.at

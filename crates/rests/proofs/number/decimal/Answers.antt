@@ -4,24 +4,24 @@ use Rattle.std.proofs.Common.{sym, ◌∙◌, arith, rules}
 use Rattle.rests.proofs.Decimals.{goes_on, stops, ends, no_digits, some_digits}
 use Rattle.rests.proofs.number.decimal.Goals as goal
 
-pub returns-then-word-eq0 : goal.returns-then-word-eq0
-returns-then-word-eq0 c = sym (no_digits _ c.if-word-eq0.true)
+pub returns-then-is_empty : goal.returns-then-is_empty
+returns-then-is_empty c = sym (no_digits _ c.if-is_empty.ensures)
 
-pub loop-i-init : goal.loop-i-init
-loop-i-init c = (omega arith, (omega arith, sym (some_digits _ c.if-word-eq0.false)))
+pub loop-byte-init : goal.loop-byte-init
+loop-byte-init c = (omega arith, sym (some_digits _ c.if-is_empty.ensures))
 
-pub returns-in_default : goal.returns-in_default
-returns-in_default c =
-    sym (stops c.args.word.now c.loop-i.i c.loop-i.value c.loop-i-test.true (sym c.with_digit.ensures ∙ c.in_default.is)) ∙ c.loop-i.invariant.1.1
+pub returns-in_err-value : goal.returns-in_err-value
+returns-in_err-value c =
+    c.from_residual.ensures
+    ∙ sym (stops c.args.word.now c.loop-byte.byte-index c.loop-byte.value c.loop-byte-test.true (sym c.with_digit.ensures ∙ c.in_err-value.was))
+    ∙ c.loop-byte.invariant.1
 
-pub loop-i-preserved : goal.loop-i-preserved
-loop-i-preserved c = (
-  omega arith,
-  (
-    search rules,
-    sym (goes_on c.args.word.now c.loop-i.i c.loop-i.value c.loop-i-test.true (sym c.with_digit.ensures ∙ c.in-Is.is)) ∙ c.loop-i.invariant.1.1,
-  ),
+pub loop-byte-preserved : goal.loop-byte-preserved
+loop-byte-preserved c = (
+  search rules,
+  sym (goes_on c.args.word.now c.loop-byte.byte-index c.loop-byte.value c.loop-byte-test.true (sym c.with_digit.ensures ∙ c.in_ok-value.was))
+      ∙ c.loop-byte.invariant.1,
 )
 
 pub returns : goal.returns
-returns c = sym (ends _ _ _ c.loop-i-test.false c.loop-i.invariant.1.0) ∙ c.loop-i.invariant.1.1
+returns c = sym (ends _ _ _ c.loop-byte-test.false c.loop-byte.invariant.0) ∙ c.loop-byte.invariant.1

@@ -1,16 +1,13 @@
 -- `setup::model` meets its contract: the rates' verdict decides, and the replay is priced.
 -- Assumes nothing.
-use Rattle.steps.proofs.Records.{same_step, no_bytes, model_refused, model_accepted}
+use Rattle.std.proofs.lemmas.Result.{err_from_is_err_and}
+use Rattle.steps.proofs.Records.{model_refused, model_accepted}
 use Rattle.steps.proofs.setup.model.Goals as goal
 
-pub returns-in-Refused : goal.returns-in-Refused
-returns-in-Refused c =
-    same_step c.args.out.now
-    (model_refused c.args.rates c.args.s c.price.ensures.value
-    c.in-Refused.is)
-    c.stopped.ensures
+pub returns-in_err-price-clause-takes : goal.returns-in_err-price-clause-takes
+returns-in_err-price-clause-takes c =
+    let p = err_from_is_err_and c.from_residual.result c.from_residual.ensures.1 in
+    rw (p.1, p.2) (model_refused _ _ c.price.ensures.value c.in_err-price.was)
 
-pub returns-in-Priced : goal.returns-in-Priced
-returns-in-Priced c =
-    no_bytes
-    (model_accepted c.args.rates c.args.s c.price.ensures.value c.in-Priced.is)
+pub returns-clause-takes : goal.returns-clause-takes
+returns-clause-takes c = model_accepted _ _ c.price.ensures.value c.in_ok-price.was

@@ -1,36 +1,20 @@
 -- `trace::decoder::rates_at` meets its contract: the six places are those of the model's layout.
 -- Assumes nothing.
+use native.Mathlib.Omega.{arith}
+use lib.Dec.{lit<}
+use Rattle.std.specs.Int.{w64}
 use Rattle.rules.specs.Trace.{layout}
-use Rattle.trace.proofs.Fields.{rates_fields}
-use borrow.Author.Rules.{rules}
+use Rattle.trace.proofs.Fields.{le_at, rates_fields}
 use Rattle.trace.proofs.decoder.rates_at.Goals as goal
 
-pub number-requires : goal.number-requires
-unfolding layout
-number-requires c = search rules
-
-pub number-requires-2 : goal.number-requires-2
-unfolding layout
-number-requires-2 c = search rules
-
-pub number-requires-3 : goal.number-requires-3
-unfolding layout
-number-requires-3 c = search rules
-
-pub number-requires-4 : goal.number-requires-4
-unfolding layout
-number-requires-4 c = search rules
-
-pub number-requires-5 : goal.number-requires-5
-unfolding layout
-number-requires-5 c = search rules
-
-pub number-requires-6 : goal.number-requires-6
-unfolding layout
-number-requires-6 c = search rules
-
 pub returns : goal.returns
+unfolding layout
 returns c =
-    rates_fields c.args.trace.now c.args.body _ c.number.ensures.0
-    c.number-2.ensures.0 c.number-3.ensures.0
-    c.number-4.ensures.0 c.number-5.ensures.0 c.number-6.ensures.0
+    let l = c.args.body.now in
+    rates_fields l _
+    (le_at w64 l 0 (lit< tt) (omega arith) c.field.ensures c.from_le_bytes.ensures)
+    (le_at w64 l 8 (lit< tt) (omega arith) c.field-2.ensures c.from_le_bytes-2.ensures)
+    (le_at w64 l 16 (lit< tt) (omega arith) c.field-3.ensures c.from_le_bytes-3.ensures)
+    (le_at w64 l 24 (lit< tt) (omega arith) c.field-4.ensures c.from_le_bytes-4.ensures)
+    (le_at w64 l 32 (lit< tt) (omega arith) c.field-5.ensures c.from_le_bytes-5.ensures)
+    (le_at w64 l 40 (lit< tt) (omega arith) c.field-6.ensures c.from_le_bytes-6.ensures)

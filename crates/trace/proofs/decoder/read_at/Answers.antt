@@ -1,32 +1,20 @@
--- `trace::decoder::read_at` meets its contract: each answer is that of the rules' case.
+-- `trace::decoder::read_at` meets its contract: what stands at the place, with its numbers.
 -- Assumes nothing.
 use mathlib.Core.Path.{◌≡◌, sym, ◌∙◌}
-use mathlib.Core.Bool.{true}
 use mathlib.Core.List.{List}
-use Prim.Native.Nat.{ℕ, ◌+◌, ◌-◌, ◌≤◌, ◌<◌}
+use Prim.Native.Nat.{ℕ}
 use native.Mathlib.Omega.{arith}
-use lib.ListN.{length, get_or, drop}
-use Rattle.rules.specs.Trace.{is_kind, layout, total, record_of, fields_from, behind, read_at}
-use Rattle.rules.proofs.Laws.Trace.{beyond_is_cut, end_at_the_end, unknown_is_refused, short_is_cut, whole_is_found}
+use Rattle.std.specs.Prelude.{Result, Ok, Option, Some}
+use Rattle.std.proofs.lemmas.Result.{err_from_is_err_and}
+use Rattle.rules.specs.Results.{Read}
+use Rattle.rules.specs.Trace.{read_at}
 use Rattle.rules.proofs.Laws.Refusals.{read_on_paper}
-use Rattle.rules.specs.declared.trace.Read.{Read}
+use Rattle.rules.specs.declared.refusals.Refusal.{Refusal}
+use Rattle.trace.specs.declared.decoder.Whole.{Whole}
 use Rattle.trace.specs.Answers.{ReadOnPaper}
-use Rattle.rules.specs.declared.refusals.Refusal.TheVariants.{CutShort}
-use Rattle.rules.specs.declared.trace.Record.{Record}
-use Rattle.rules.specs.declared.trace.Read.TheVariants.{Found, Refused}
-use borrow.Author.Rules.{rules}
+use Rattle.trace.specs.Extents.{extent_at}
+use Rattle.trace.proofs.ExtentLaws.{IsWhole, whole_only, err_only, end_only}
 use Rattle.trace.proofs.decoder.read_at.Goals as goal
-
--- a body that is cut short, and a whole one, by the length that is left behind the kind
-module _ (l : List ℕ) (at len : ℕ) (inside : at < length l) (known : is_kind (get_or l at 0) ≡ true) (body : len ≡ total (layout (get_or l at 0))) where
-  cut : length l - (at + 1) < len → Refused CutShort ≡ read_at l at
-  unfolding behind
-  cut h = sym (short_is_cut l at inside known (omega arith))
-
-  whole : len ≤ length l - (at + 1) → (r : Record) → r ≡ record_of (get_or l at 0) (fields_from (layout (get_or l at 0)) (drop (at + 1) l))
-      → Found r (at + 1 + len) ≡ read_at l at
-  unfolding behind
-  whole h r e = rw (e, body) (sym (whole_is_found l at inside known (omega arith)))
 
 -- both clauses, from the first
 abbrev Both : List ℕ → ℕ → Read → Type 0
@@ -35,30 +23,22 @@ Both trace at r = record { value : r ≡ read_at trace at; number : ReadOnPaper 
 both : (trace : List ℕ) (at : ℕ) {r : Read} → r ≡ read_at trace at → Both trace at r
 both trace at e = record { value = e; number = read_on_paper trace at e }
 
-pub returns-then-trace-at : goal.returns-then-trace-at
-returns-then-trace-at c = both _ _ (sym (beyond_is_cut _ _ c.if-trace-at.true))
+stands : (l : List ℕ) (at : ℕ) (w : Whole) {r : Result (Option Whole) Refusal} {o : Option Whole} → r ≡ extent_at l at → r ≡ Ok o → o ≡ Some w → IsWhole l at w
+stands l at w e f g = whole_only l at w (sym e ∙ (rw g at f))
 
-pub returns-then-at-trace : goal.returns-then-at-trace
-returns-then-at-trace c = both _ _ (sym (end_at_the_end _ _ c.if-at-trace.true))
+pub returns-in_err-whole : goal.returns-in_err-whole
+returns-in_err-whole c =
+    let p = err_from_is_err_and c.from_residual.result c.from_residual.ensures.1 in
+    both _ _ (p.1 ∙ rw p.2 (sym (err_only _ _ _ (sym c.extent.ensures ∙ c.in_err-whole.was))))
 
-pub returns-then-not-is_kind : goal.returns-then-not-is_kind
-returns-then-not-is_kind c =
-    both _ _ (sym (unknown_is_refused c.args.trace.now c.args.at (search rules) (sym c.is_kind.ensures ∙ c.if-not-is_kind.true)))
+pub returns-in_default : goal.returns-in_default
+returns-in_default c = both _ _ (sym (end_only _ _ (sym c.extent.ensures ∙ (rw c.in_default.is at c.in_ok-whole.was))))
 
-pub body_len-len-requires : goal.body_len-len-requires
-body_len-len-requires c = sym c.is_kind.ensures ∙ c.if-not-is_kind.false
+pub overflow_add-at : goal.overflow_add-at
+overflow_add-at c = let w = stands _ _ _ c.extent.ensures c.in_ok-whole.was c.in-Some.is in omega (arith, w.inside, w.to)
 
-pub record_at-requires : goal.record_at-requires
-record_at-requires c = (sym c.is_kind.ensures ∙ c.if-not-is_kind.false, omega (arith, c.body_len-len.ensures))
+pub record_at-item-requires : goal.record_at-item-requires
+record_at-item-requires c = let w = stands _ _ _ c.extent.ensures c.in_ok-whole.was c.in-Some.is in omega (arith, w.inside, w.to)
 
-pub returns-then-len-trace : goal.returns-then-len-trace
-returns-then-len-trace c =
-    both _ _
-    (whole c.args.trace.now c.args.at _ (search rules)
-    (sym c.is_kind.ensures ∙ c.if-not-is_kind.false) c.body_len-len.ensures c.if-len-trace.true _ c.record_at.ensures)
-
-pub returns-else-len-trace : goal.returns-else-len-trace
-returns-else-len-trace c =
-    both _ _
-    (cut c.args.trace.now c.args.at _ (search rules)
-    (sym c.is_kind.ensures ∙ c.if-not-is_kind.false) c.body_len-len.ensures c.if-len-trace.false)
+pub returns : goal.returns
+returns c = let w = stands _ _ _ c.extent.ensures c.in_ok-whole.was c.in-Some.is in both _ _ (rw c.record_at-item.ensures (sym w.it))

@@ -9,5 +9,4 @@ node_fault-requires c =
     (climbs_before c.args.tree c.requires.1 c.requires.2, omega arith, omega arith)
 
 pub returns : goal.returns
-returns c =
-    newest_at c.args.tree c.requires.1 c.node_fault.ensures
+returns c = newest_at c.args.tree c.requires.1 c.node_fault.ensures

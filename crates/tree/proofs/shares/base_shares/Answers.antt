@@ -1,15 +1,10 @@
 -- `shares::base_shares` meets its contract: at the loop's head the active nodes before have their shares, and the active leaves
 -- among them their places.
 -- Assumes nothing.
-use mathlib.Core.Path.{◌≡◌, refl, sym, ◌∙◌}
-use mathlib.Core.Bool.{Bool, true, false, cond}
-use mathlib.Core.List.{List}
-use Prim.Native.Nat.{ℕ, ◌+◌, ◌-◌, ◌*◌, ◌^◌, ◌≤◌, ◌<◌}
-use native.Mathlib.Omega.{arith}
+use Rattle.std.proofs.Common.{◌≡◌, refl, sym, ◌∙◌, Bool, true, false, cond, List, ℕ, ◌+◌, ◌-◌, ◌*◌, ◌^◌, ◌≤◌, ◌<◌, arith, length, get_or}
 use lib.Dec.{eqb}
-use lib.ListN.{length, get_or, set, replicate, length-set, get_or-replicate}
+use lib.ListN.{set, replicate, length-set, get_or-replicate}
 use lib.Seq.{get_or-set_same, get_or-set_other}
-use borrow.Author.Rules.{rules}
 use borrow.Author.Tests.{eqb-true, eqb-false}
 use Rattle.rules.specs.Words.{has, set_of, table}
 use Rattle.rules.specs.Units.{floor_of}
@@ -20,7 +15,7 @@ use Rattle.rules.proofs.Laws.Bools.{true_not_false, is_false}
 use Rattle.rules.proofs.Laws.Sweeps.{swept, place_put, place_skip, places_rest}
 use Rattle.rules.proofs.Laws.Trees.{no_root_within, leaf_last}
 use Rattle.rules.proofs.Laws.Shares.{no_base_share}
-use Rattle.tree.specs.View.{tree_of, Lit, child_sum_in, share_among}
+use Rattle.tree.specs.View.{Lit, child_sum_in, share_among}
 use Rattle.tree.proofs.View.{last_at}
 use Rattle.tree.proofs.Lit.{lit_here, root_share, Child, child_below, parent_asks, parent_inside, share_fits, some_weight, share_stepped, share_most}
 use Rattle.tree.proofs.Leaves.{leaf_asks, leaf_share}
@@ -45,11 +40,7 @@ module _ (t : Tree) (nodes : ℕ) (held : List ℕ) (n : ℕ) (s : Shared t node
 
 -- ---- what is known once the active nodes are
 module _ {t : Tree} (sound : SoundTree t) {active nodes : ℕ} (inside : Within t active) (fits : active < 2 ^ 64)
-    (among : (ws : List ℕ) → SoundTree (tree_of t.count t.parents ws) → Within (tree_of t.count t.parents ws) active
-    → nodes ≡ set_of (is_active (tree_of t.count t.parents ws) active)) where
-  are_active : nodes ≡ set_of (is_active t active)
-  are_active = among t.weights sound inside
-
+    (are_active : nodes ≡ set_of (is_active t active)) where
   lit : Lit t nodes
   lit = lit_here sound active inside fits are_active
 
@@ -68,8 +59,8 @@ module _ {t : Tree} (sound : SoundTree t) {active nodes : ℕ} (inside : Within 
 
   -- ---- once the parent of an active node is read
   module _ (n : ℕ) (pos : 0 < n) (on : has nodes n ≡ true) {q : ℕ} (e : q ≡ get_or t.parents n 0) where
-    child : Child t.count t.parents t.weights nodes n q
-    child = child_below t.count t.parents t.weights lit n on (λ z. absurd (omega arith)) e
+    child : Child t nodes n q
+    child = child_below t lit n on (λ z. absurd (omega arith)) e
 
     parent_small : q < 64
     parent_small = parent_inside child
@@ -91,95 +82,80 @@ module _ {t : Tree} (sound : SoundTree t) {active nodes : ℕ} (inside : Within 
       share : {w r : ℕ} → w ≡ get_or t.weights n 0 → r ≡ floor_of (get_or held q 0 * w) (get_or sums q 0) → r ≡ share_among t nodes n
       share f g = share_stepped child above_is f sum_is g
 
+-- the sums of the lent tree are those of the tree
+sums_of : {s t : Tree} → s ≡ t → (nodes : ℕ) (sums : List ℕ) → ((p : ℕ) → p < 64 → get_or sums p 0 ≡ child_sum_in s nodes p)
+    → (p : ℕ) → p < 64 → get_or sums p 0 ≡ child_sum_in t nodes p
+sums_of e nodes sums each p l = rw e at (each p l)
+
 -- above the needs that a lie about it may leave true: the first error is what is false
 pub loop-n-preserved : goal.loop-n-preserved
 loop-n-preserved c =
     let t = c.args.tree in
     let active = c.args.active in
-    let nodes = c.active_nodes-nodes.result in
+    let nodes = c.of-lit.result.nodes in
     let n = c.loop-n.n in
-    let small : n < 64 = omega (arith, c.loop-n-test.true, c.requires.0.most) in
+    let small : n < 64 = omega (arith, c.requires.0.most) in
+    let pos : 0 < n = omega arith in
+    let each = sums_of c.of-lit.ensures.0 nodes _ c.of-lit.result.summed in
     let step : (length c.if-has.held ≡ 64)
     × Shared t nodes c.if-has.held (n + 1)
     × (c.if-has.shares ≡ swept (table (base_share t active)) (replicate 64 0) (n + 1)) =
     elim c.if-has.branch [
       | then-has w ↦
-          let its : w.portion-share.result ≡ share_among t nodes n = share c.requires.0 c.requires.1 c.ranges.active.fits c.active_nodes-nodes.ensures c.loop-n.n c.loop-n.invariant.0
-          (sym c.has.ensures ∙ w.if-has.true) w.wide-parent.ensures c.loop-n.held c.child_sums-sums.result c.loop-n.invariant.2 c.child_sums-sums.ensures w.heavy.ensures.0 w.portion-share.ensures in
+          let its : w.portion-share.result ≡ share_among t nodes n =
+          share c.requires.0 c.requires.1 c.ranges.active.fits c.of-lit.ensures.1 n pos (sym c.has.ensures ∙ w.if-has.true) w.from-parent.ensures c.loop-n.held c.of-lit.result.sums
+          c.loop-n.invariant.1 each refl w.portion-share.ensures in
           rw (w.held-is, w.shares-is) (
-            length-set c.loop-n.held n _ ∙ c.loop-n.invariant.1,
-            puts t nodes c.loop-n.held n c.loop-n.invariant.2 _ (omega (arith, c.loop-n.invariant.1)) its,
-            place_put (base_share t active) (replicate 64 0) c.loop-n.shares n 0 refl c.loop-n.invariant.3 small w.base_share.result
-                (base_is c.requires.0 c.requires.1 c.ranges.active.fits c.active_nodes-nodes.ensures n its w.base_share.ensures),
+            length-set c.loop-n.held n _ ∙ c.loop-n.invariant.0,
+            puts t nodes c.loop-n.held n c.loop-n.invariant.1 _ (omega (arith, c.loop-n.invariant.0)) its,
+            place_put (base_share t active) (replicate 64 0) c.loop-n.shares n 0 refl c.loop-n.invariant.2 small w.base_share.result
+                (base_is c.requires.0 c.requires.1 c.ranges.active.fits c.of-lit.ensures.1 n its w.base_share.ensures),
           )
       | else-has w ↦
           let off : has nodes n ≡ false = sym c.has.ensures ∙ w.if-has.false in
           rw (w.held-is, w.shares-is) (
-            c.loop-n.invariant.1,
-            idle t nodes c.loop-n.held n c.loop-n.invariant.2 off,
-            place_skip (base_share t active) (replicate 64 0) c.loop-n.shares n 0 refl c.loop-n.invariant.3 small
-                (get_or-replicate 64 n 0 0 small ∙ sym (no_base_share t active n (no_leaf c.requires.0 c.requires.1 c.ranges.active.fits c.active_nodes-nodes.ensures n small off))),
+            c.loop-n.invariant.0,
+            idle t nodes c.loop-n.held n c.loop-n.invariant.1 off,
+            place_skip (base_share t active) (replicate 64 0) c.loop-n.shares n 0 refl c.loop-n.invariant.2 small
+                (get_or-replicate 64 n 0 0 small ∙ sym (no_base_share t active n (no_leaf c.requires.0 c.requires.1 c.ranges.active.fits c.of-lit.ensures.1 n small off))),
           )
     ] in
-    (search rules, step.0, step.1, step.2, omega arith)
-
-pub active_nodes-nodes-requires : goal.active_nodes-nodes-requires
-active_nodes-nodes-requires c = record { weights = c.args.tree.weights; sound = c.requires.0; within = c.requires.1 }
-
-pub child_sums-sums-requires : goal.child_sums-sums-requires
-child_sums-sums-requires c = lit c.requires.0 c.requires.1 c.ranges.active.fits c.active_nodes-nodes.ensures
+    (step.0, step.1, step.2, omega arith)
 
 pub loop-n-init : goal.loop-n-init
 loop-n-init c =
     let t = c.args.tree in
     let active = c.args.active in (
-      search rules,
       refl,
-      λ k l on. let z : k ≡ 0 = omega arith in rw z (root_share t c.active_nodes-nodes.result 0 refl),
+      λ k l on. let z : k ≡ 0 = omega arith in rw z (root_share t c.of-lit.result.nodes 0 refl),
       place_skip (base_share t active) (replicate 64 0) (replicate 64 0) 0 0 refl refl (omega arith)
           (sym (no_base_share t active 0 (no_root_within t active c.requires.1))),
       omega arith,
     )
 
-pub offset_bounds-held-parent : goal.offset_bounds-held-parent
-offset_bounds-held-parent c =
-    omega (
-      arith,
-      parent_small c.requires.0 c.requires.1 c.ranges.active.fits c.active_nodes-nodes.ensures c.loop-n.n c.loop-n.invariant.0 (sym c.has.ensures ∙ c.if-has.true) c.wide-parent.ensures,
-    )
-
 pub bounds-held-parent : goal.bounds-held-parent
 bounds-held-parent c =
-    parent_small c.requires.0 c.requires.1 c.ranges.active.fits c.active_nodes-nodes.ensures c.loop-n.n c.loop-n.invariant.0 (sym c.has.ensures ∙ c.if-has.true) c.wide-parent.ensures
+    parent_small c.requires.0 c.requires.1 c.ranges.active.fits c.of-lit.ensures.1 c.loop-n.n (omega arith) (sym c.has.ensures ∙ c.if-has.true) c.from-parent.ensures
 
-pub offset_bounds-sums-parent : goal.offset_bounds-sums-parent
-offset_bounds-sums-parent c =
-    omega (
-      arith,
-      parent_small c.requires.0 c.requires.1 c.ranges.active.fits c.active_nodes-nodes.ensures c.loop-n.n c.loop-n.invariant.0 (sym c.has.ensures ∙ c.if-has.true) c.wide-parent.ensures,
-    )
-
-pub bounds-sums-parent : goal.bounds-sums-parent
-bounds-sums-parent c =
-    parent_small c.requires.0 c.requires.1 c.ranges.active.fits c.active_nodes-nodes.ensures c.loop-n.n c.loop-n.invariant.0 (sym c.has.ensures ∙ c.if-has.true) c.wide-parent.ensures
+pub bounds-lit-parent : goal.bounds-lit-parent
+bounds-lit-parent c =
+    parent_small c.requires.0 c.requires.1 c.ranges.active.fits c.of-lit.ensures.1 c.loop-n.n (omega arith) (sym c.has.ensures ∙ c.if-has.true) c.from-parent.ensures
 
 pub portion-share-requires : goal.portion-share-requires
 portion-share-requires c =
-    asks c.requires.0 c.requires.1 c.ranges.active.fits c.active_nodes-nodes.ensures c.loop-n.n c.loop-n.invariant.0
-    (sym c.has.ensures ∙ c.if-has.true) c.wide-parent.ensures c.loop-n.held c.child_sums-sums.result c.loop-n.invariant.2 c.child_sums-sums.ensures
-    c.heavy.ensures.1
+    asks c.requires.0 c.requires.1 c.ranges.active.fits c.of-lit.ensures.1 c.loop-n.n (omega arith) (sym c.has.ensures ∙ c.if-has.true) c.from-parent.ensures c.loop-n.held c.of-lit.result.sums
+    c.loop-n.invariant.1 (sums_of c.of-lit.ensures.0 c.of-lit.result.nodes _ c.of-lit.result.summed) (omega arith)
 
 pub base_share-requires : goal.base_share-requires
-base_share-requires c = (
-  search rules,
-  share_small c.requires.0 c.requires.1 c.ranges.active.fits c.active_nodes-nodes.ensures c.loop-n.n c.loop-n.invariant.0
-      (sym c.has.ensures ∙ c.if-has.true) c.wide-parent.ensures
-      (share c.requires.0 c.requires.1 c.ranges.active.fits c.active_nodes-nodes.ensures c.loop-n.n c.loop-n.invariant.0
-      (sym c.has.ensures ∙ c.if-has.true) c.wide-parent.ensures c.loop-n.held c.child_sums-sums.result c.loop-n.invariant.2 c.child_sums-sums.ensures c.heavy.ensures.0 c.portion-share.ensures),
-)
-
-pub loop-n-smaller : goal.loop-n-smaller
-loop-n-smaller c = let l : c.loop-n.n < 64 = omega (arith, c.loop-n-test.true, c.requires.0.most) in omega arith
+base_share-requires c =
+    let n = c.loop-n.n in
+    let pos : 0 < n = omega arith in
+    let on = sym c.has.ensures ∙ c.if-has.true in (
+      omega (arith, c.requires.0.most),
+      share_small c.requires.0 c.requires.1 c.ranges.active.fits c.of-lit.ensures.1 n pos on c.from-parent.ensures
+          (share c.requires.0 c.requires.1 c.ranges.active.fits c.of-lit.ensures.1 n pos on c.from-parent.ensures c.loop-n.held c.of-lit.result.sums c.loop-n.invariant.1
+          (sums_of c.of-lit.ensures.0 c.of-lit.result.nodes _ c.of-lit.result.summed) refl c.portion-share.ensures),
+    )
 
 pub returns : goal.returns
 unfolding base_shares
@@ -187,10 +163,10 @@ returns c =
     let t = c.args.tree in
     let active = c.args.active in
     let n = c.loop-n.n in
-    places_rest (base_share t active) (replicate 64 0) 0 refl (64 - n) n (omega (arith, c.loop-n.invariant.4))
+    places_rest (base_share t active) (replicate 64 0) 0 refl (64 - n) n (omega (arith, c.loop-n.invariant.3))
     (λ k m small.
     get_or-replicate 64 k 0 0 small
     ∙ sym (no_base_share t active k (is_false (has active k) (λ on.
-    let z : k ≤ t.count - 1 = rw (last_at t.count t.parents t.weights) at (leaf_last t k (c.requires.1 k on)) in
-    omega (arith, z, c.loop-n.invariant.0, c.loop-n-test.false)))))
-    c.loop-n.shares c.loop-n.invariant.3
+    let z : k ≤ t.count - 1 = rw (last_at t) at (leaf_last t k (c.requires.1 k on)) in
+    omega (arith, z)))))
+    c.loop-n.shares c.loop-n.invariant.2

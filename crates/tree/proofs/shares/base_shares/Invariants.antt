@@ -1,11 +1,8 @@
 -- `shares::base_shares` meets its contract: at the loop's head the active nodes before have their shares, and the active leaves
 -- among them their places.
 -- Assumes nothing.
-use mathlib.Core.Path.{◌≡◌}
-use mathlib.Core.Bool.{true}
-use mathlib.Core.List.{List}
-use Prim.Native.Nat.{ℕ, ◌-◌, ◌≤◌, ◌<◌}
-use lib.ListN.{length, get_or, replicate}
+use Rattle.std.proofs.Common.{◌≡◌, true, List, ℕ, ◌≤◌, ◌<◌, length, get_or}
+use lib.ListN.{replicate}
 use Rattle.rules.specs.Words.{has, table}
 use Rattle.rules.specs.Tree.{base_share}
 use Rattle.rules.specs.declared.tree.Tree.{Tree}
@@ -19,7 +16,4 @@ Shared t nodes held n = (k : ℕ) → k < n → has nodes k ≡ true → get_or 
 
 abbrev pub invariant-loop-n : goal.invariant-loop-n
 invariant-loop-n l =
-    (0 < l.n) × (length l.held ≡ 64) × Shared l.tree l.nodes l.held l.n × (l.shares ≡ swept (table (base_share l.tree l.active)) (replicate 64 0) l.n) × (l.n ≤ 64)
-
-abbrev pub decreases-loop-n : goal.decreases-loop-n
-decreases-loop-n l = 64 - l.n
+    (length l.held ≡ 64) × Shared l.fn.tree l.lit.nodes l.held l.n × (l.shares ≡ swept (table (base_share l.fn.tree l.active)) (replicate 64 0) l.n) × (l.n ≤ 64)

@@ -2,39 +2,34 @@
 -- Assumes nothing.
 use mathlib.Core.Path.{◌≡◌, sym, ◌∙◌}
 use mathlib.Core.Bool.{Bool, true, false, ◌&&◌}
-use Prim.Native.Nat.{ℕ, ◌<◌}
+use Prim.Native.Nat.{ℕ}
 use lib.Dec.{ltb}
 use Rattle.rules.specs.Tree.{weight_in_range, is_thin, is_below_root, with_weight}
 use Rattle.rules.specs.Refusals.{first_of, weight_checks}
-use Rattle.rules.specs.Invariant.{SoundTree}
-use Rattle.rules.proofs.Laws.Weights.{below_root_inside, weight_keeps_sound_trees}
+use Rattle.rules.proofs.Laws.Weights.{weight_keeps_sound_trees}
 use Rattle.rules.specs.declared.tree.Tree.{Tree}
 use Rattle.rules.specs.declared.tree.Fault.TheVariants.{Weight}
 use Rattle.rules.specs.declared.refusals.Refusal.TheVariants.{BadTree, ThinTree, NotBelowRoot}
-use Rattle.rules.specs.declared.refusals.Verdict.TheVariants.{Accepted, Refused}
 use Rattle.tree.proofs.weights.verdict.Goals as goal
+use Rattle.std.specs.Prelude.{Err, Ok}
 
 -- ---- the rule's answer, by what was tested
 module _ (t : Tree) (w : ℕ) {n at : ℕ} (e : at ≡ n) where
-  absent : (ltb 0 at && ltb at t.count) ≡ false → Refused NotBelowRoot ≡ first_of (weight_checks n w t)
+  absent : (ltb 0 at && ltb at t.count) ≡ false → Err NotBelowRoot ≡ first_of (weight_checks n w t)
   unfolding weight_checks is_below_root
   absent h = rw (← e, h)
 
   module _ (here : (ltb 0 at && ltb at t.count) ≡ true) where
-    out_of_range : weight_in_range w ≡ false → Refused (BadTree (Weight at)) ≡ first_of (weight_checks n w t)
+    out_of_range : weight_in_range w ≡ false → Err (BadTree (Weight at)) ≡ first_of (weight_checks n w t)
     unfolding weight_checks is_below_root
     out_of_range h = rw (← e, here, h)
 
-    inside : SoundTree t → n < 64
-    unfolding is_below_root
-    inside sound = below_root_inside sound n (rw e at here)
-
     module _ (range : weight_in_range w ≡ true) where
-      too_thin : is_thin (with_weight n w t) ≡ true → Refused ThinTree ≡ first_of (weight_checks n w t)
+      too_thin : is_thin (with_weight n w t) ≡ true → Err ThinTree ≡ first_of (weight_checks n w t)
       unfolding weight_checks is_below_root
       too_thin h = rw (h, ← e, here, range)
 
-      accepted : is_thin (with_weight n w t) ≡ false → Accepted ≡ first_of (weight_checks n w t)
+      accepted : is_thin (with_weight n w t) ≡ false → Ok tt ≡ first_of (weight_checks n w t)
       unfolding weight_checks is_below_root
       accepted h = rw (h, ← e, here, range)
 
@@ -45,14 +40,11 @@ thin_is n w t i e f = rw i at (sym e ∙ f)
 
 pub returns-then-not-weight_in_range : goal.returns-then-not-weight_in_range
 returns-then-not-weight_in_range c =
-    out_of_range c.args.tree c.args.weight c.wide-at.ensures c.if-not-at-tree.false
+    out_of_range c.args.tree c.args.weight c.from-at.ensures c.if-not-at-tree.false
     (sym c.weight_in_range.ensures ∙ c.if-not-weight_in_range.true)
 
 pub returns-then-not-at-tree : goal.returns-then-not-at-tree
-returns-then-not-at-tree c = absent c.args.tree c.args.weight c.wide-at.ensures c.if-not-at-tree.true
-
-pub with_weight-requires : goal.with_weight-requires
-with_weight-requires c = inside c.args.tree c.args.weight c.wide-at.ensures c.if-not-at-tree.false c.requires
+returns-then-not-at-tree c = absent c.args.tree c.args.weight c.from-at.ensures c.if-not-at-tree.true
 
 pub thin_in_flight-requires : goal.thin_in_flight-requires
 thin_in_flight-requires c =
@@ -62,11 +54,11 @@ thin_in_flight-requires c =
 pub returns-then-thin_in_flight : goal.returns-then-thin_in_flight
 returns-then-thin_in_flight c =
     let a = c.args in
-    too_thin a.tree a.weight c.wide-at.ensures c.if-not-at-tree.false (sym c.weight_in_range.ensures ∙ c.if-not-weight_in_range.false)
+    too_thin a.tree a.weight c.from-at.ensures c.if-not-at-tree.false (sym c.weight_in_range.ensures ∙ c.if-not-weight_in_range.false)
     (thin_is a.node a.weight a.tree c.with_weight.ensures c.thin_in_flight.ensures c.if-thin_in_flight.true)
 
 pub returns : goal.returns
 returns c =
     let a = c.args in
-    accepted a.tree a.weight c.wide-at.ensures c.if-not-at-tree.false (sym c.weight_in_range.ensures ∙ c.if-not-weight_in_range.false)
+    accepted a.tree a.weight c.from-at.ensures c.if-not-at-tree.false (sym c.weight_in_range.ensures ∙ c.if-not-weight_in_range.false)
     (thin_is a.node a.weight a.tree c.with_weight.ensures c.thin_in_flight.ensures c.if-thin_in_flight.false)
