@@ -12,12 +12,9 @@ use Rattle.std.proofs.Math.ListN.{length}
 use Rattle.std.proofs.Math.Seq.{drop-length}
 use Rattle.rules.proofs.Laws.Bools.{never, true_not_false, same_test}
 use Rattle.trace.specs.Extents.{extent_at}
-use Rattle.trace.specs.Kinds.{code}
-use Rattle.trace.specs.declared.kind.Kind.{Kind}
 use Rattle.comparison.specs.Compare.{Extent, records_end, Fault, error_by, error_in, else_error, error_of, same_bytes, at_start, step_of, walked, concluded, unless_error, compared_from, compared, fault_told, difference_told, ends_told, likeness_told, other_side, other_of, longer_by, longer_of, rest_by, rest_of}
-use Rattle.comparison.proofs.Laws.Records.{Records, joined, records_make_the_trace, one_list_of_records, without_error, kind_by, Known, records_known, difference_in, ends_in, likeness_in, listed, compared_by_the_records, walk_is_over}
+use Rattle.comparison.proofs.Laws.Records.{Records, joined, records_make_the_trace, one_list_of_records, without_error, difference_in, ends_in, likeness_in, listed, compared_by_the_records, walk_is_over}
 use Rattle.comparison.proofs.Laws.Records.Records.{none_left}
-use Rattle.comparison.proofs.Laws.Records.Known.{known_none, known_more}
 use Rattle.comparison.specs.declared.Side.{Side}
 use Rattle.comparison.specs.declared.Side.TheVariants.{First, Second}
 use Rattle.comparison.specs.declared.Step.TheVariants.{Over}
@@ -28,7 +25,7 @@ use Rattle.comparison.specs.declared.Likeness.TheVariants.{Equal, Prefix, Differ
 use Rattle.comparison.specs.declared.Error.{Error}
 use Rattle.comparison.proofs.Laws.Lists.{same_bytes_are_equal, equal_bytes_are_the_same, equal_records, records_equal, Longer, prefix_records, second_is_longer, first_is_longer, joined_append, More, goes_likewise, ends_by_count, counted}
 use Rattle.comparison.proofs.Laws.Lists.Longer.{second_longer, first_longer}
-use Rattle.comparison.specs.Theorems.{first_differs, IsPrefix, ends_first, ends_second, Rest, FirstFrom, swap_error, swap_fault, swap_difference, swap_ends, swapped, Alone}
+use Rattle.comparison.specs.Theorems.{kind_in, first_differs, IsPrefix, ends_first, ends_second, Rest, FirstFrom, swap_error, swap_fault, swap_difference, swap_ends, swapped, Alone}
 
 some_is : {A : Type 0} {x y : A} → Some x ≡ Some y → x ≡ y
 some_is e = cc
@@ -168,15 +165,15 @@ module _ (first second : List ℕ) (sound : error_of first second ≡ Ok tt) whe
           })
 
 -- ---- the record given
-first_from : (from m : ℕ) {rs ss : List (List ℕ)} → Known rs → Known ss → (n : ℕ) (k l : Kind) → difference_in from m rs ss ≡ Some (first_differs n k l)
+first_from : (from m : ℕ) (rs ss : List (List ℕ)) (n k l : ℕ) → difference_in from m rs ss ≡ Some (first_differs n k l)
     → (i : ℕ) × ((n ≡ m + i) × FirstFrom from m i k l rs ss)
 unfolding difference_in
-first_from from m known_none known n k l e = never (cc)
-first_from from m (known_more a known) known_none n k l e = never (cc)
-first_from from m (known_more {r} {rs} a known) (known_more {r = s} {rs = ss} b others) n k l e =
-    go (leb from m) refl (same_bytes r s) refl e (λ f. first_from from (m + 1) known others n k l f)
+first_from from m [] ss n k l e = never (cc)
+first_from from m (r ∷ rs) [] n k l e = never (cc)
+first_from from m (r ∷ rs) (s ∷ ss) n k l e =
+    go (leb from m) refl (same_bytes r s) refl e (λ f. first_from from (m + 1) rs ss n k l f)
   where
-    here : leb from m ≡ true → same_bytes r s ≡ false → first_differs m (kind_by r) (kind_by s) ≡ first_differs n k l
+    here : leb from m ≡ true → same_bytes r s ≡ false → first_differs m (kind_in r) (kind_in s) ≡ first_differs n k l
         → (i : ℕ) × ((n ≡ m + i) × FirstFrom from m i k l (r ∷ rs) (s ∷ ss))
     here c d f =
         let number : m ≡ n = ap (λ (d : Difference). d.number) f in (
@@ -187,8 +184,8 @@ first_from from m (known_more {r} {rs} a known) (known_more {r = s} {rs = ss} b 
               asked = omega (arith, leb-true from m c);
               in_first = omega arith;
               in_second = omega arith;
-              kind_of_first = sym a ∙ ap (λ (d : Difference). code d.first) f;
-              kind_of_second = sym b ∙ ap (λ (d : Difference). code d.second) f;
+              kind_of_first = ap (λ (d : Difference). d.first) f;
+              kind_of_second = ap (λ (d : Difference). d.second) f;
               differ = λ g. true_not_false (rw g (equal_bytes_are_the_same s)) d;
               same_before = λ j h less. absurd (omega arith);
             },
@@ -219,7 +216,7 @@ first_from from m (known_more {r} {rs} a known) (known_more {r = s} {rs = ss} b 
         before (suc j) h less = w.1.1.same_before j (omega arith) (omega arith)
 
     go : (a : Bool) → leb from m ≡ a → (b : Bool) → same_bytes r s ≡ b
-        → cond (a && not b) (Some (first_differs m (kind_by r) (kind_by s))) (difference_in from (m + 1) rs ss) ≡ Some (first_differs n k l)
+        → cond (a && not b) (Some (first_differs m (kind_in r) (kind_in s))) (difference_in from (m + 1) rs ss) ≡ Some (first_differs n k l)
         → (difference_in from (m + 1) rs ss ≡ Some (first_differs n k l) → (i : ℕ) × ((n ≡ m + 1 + i) × FirstFrom from (m + 1) i k l rs ss))
         → (i : ℕ) × ((n ≡ m + i) × FirstFrom from m i k l (r ∷ rs) (s ∷ ss))
     go true c false d f rest = here c d (some_is f)
@@ -236,7 +233,7 @@ none_from from m (r ∷ rs) (s ∷ ss) e j h a b =
     go (leb from m) refl (same_bytes r s) refl e j h a b (λ f i g c d. none_from from (m + 1) rs ss f i g c d)
   where
     go : (x : Bool) → leb from m ≡ x → (y : Bool) → same_bytes r s ≡ y
-        → cond (x && not y) (Some (first_differs m (kind_by r) (kind_by s))) (difference_in from (m + 1) rs ss) ≡ None
+        → cond (x && not y) (Some (first_differs m (kind_in r) (kind_in s))) (difference_in from (m + 1) rs ss) ≡ None
         → (j : ℕ) → from ≤ m + j → j < suc (length rs) → j < suc (length ss)
         → (difference_in from (m + 1) rs ss ≡ None → (i : ℕ) → from ≤ m + 1 + i → i < length rs → i < length ss → get_or rs i [] ≡ get_or ss i [])
         → get_or (r ∷ rs) j [] ≡ get_or (s ∷ ss) j []
@@ -261,9 +258,9 @@ module _ {first second : List ℕ} {rs ss : List (List ℕ)} (reads : Records fi
   difference_is : difference_told (compared first second from) ≡ difference_in from 0 rs ss
   difference_is = ap difference_told by_lists
 
-  pub all_before_is_the_same : (n : ℕ) (k l : Kind) → difference_told (compared first second from) ≡ Some (first_differs n k l) → FirstFrom from 0 n k l rs ss
+  pub all_before_is_the_same : (n k l : ℕ) → difference_told (compared first second from) ≡ Some (first_differs n k l) → FirstFrom from 0 n k l rs ss
   all_before_is_the_same n k l e =
-      let w = first_from from 0 (records_known reads) (records_known others) n k l (sym difference_is ∙ e) in
+      let w = first_from from 0 rs ss n k l (sym difference_is ∙ e) in
       let number : w.0 ≡ n = omega (arith, w.1.0) in
       rw number at w.1.1
 

@@ -3,6 +3,7 @@
 use Rattle.std.specs.Prelude.{Bool, true, false, cond, ◌&&◌, List, [], ◌∷◌, ℕ, zero, suc, ◌+◌, ◌-◌, eqb, leb, length, take, drop, Option, Some, None, Result, Ok, Err, ⊤}
 use Rattle.rules.specs.declared.refusals.Refusal.{Refusal}
 use Rattle.trace.specs.Extents.{extent_at}
+use Rattle.trace.specs.Kinds.{code}
 use Rattle.trace.specs.declared.decoder.Whole.{Whole}
 use Rattle.comparison.specs.declared.Side.{Side}
 use Rattle.comparison.specs.declared.Side.TheVariants.{First, Second}
@@ -122,7 +123,7 @@ abbrev pub noted : ℕ → PairOf → Walk → Option Difference
 noted from p w =
     cond p.same w.difference
     (else_difference w.difference
-    (cond (leb from w.reach.number) (Some (record { number = w.reach.number; first = p.first.kind; second = p.second.kind })) None))
+    (cond (leb from w.reach.number) (Some (record { number = w.reach.number; first = code p.first.kind; second = code p.second.kind })) None))
 
 unfoldable pub passed : ℕ → Stepped → Walk → Walk
 passed from (Ok (Pair p)) w = record { reach = advanced (Ok (Pair p)) w.reach; difference = noted from p w }

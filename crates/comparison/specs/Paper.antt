@@ -2,7 +2,6 @@
 -- Assumes nothing.
 use Rattle.std.specs.Prelude.{cond, List, [], ◌∷◌, ◌++◌, ℕ, eqb, Option, Some, None, Ok, Err}
 use Rattle.rules.specs.Refusals.{number, Paper, paper, due, read_checks}
-use Rattle.trace.specs.Kinds.{code}
 use Rattle.comparison.specs.Compare.{records_end, walked, compared_from, Fault, Told, fault_told, difference_told, ends_told, likeness_told}
 use Rattle.comparison.specs.declared.Side.{Side}
 use Rattle.comparison.specs.declared.Side.TheVariants.{First, Second}
@@ -17,7 +16,7 @@ side_number Second = 2
 
 -- a difference by 1, its number and both kinds; none by 0
 abbrev pub difference_values : Option Difference → List ℕ
-difference_values (Some d) = 1 ∷ d.number ∷ code d.first ∷ code d.second ∷ []
+difference_values (Some d) = 1 ∷ d.number ∷ d.first ∷ d.second ∷ []
 difference_values None = 0 ∷ []
 
 -- the side that ends first, 0 where neither does, and the count

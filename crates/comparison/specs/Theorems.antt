@@ -4,8 +4,6 @@
 use Rattle.std.specs.Prelude.{◌≡◌, ◌⊎◌, ℕ, ◌+◌, ◌≤◌, ◌<◌, get_or, Option, Some, None, Ok, Err}
 use mathlib.Core.List.{List, [], ◌++◌}
 use Rattle.std.proofs.Math.ListN.{length}
-use Rattle.trace.specs.Kinds.{code}
-use Rattle.trace.specs.declared.kind.Kind.{Kind}
 use Rattle.comparison.specs.Compare.{Fault, Told, other_side, other_of, compared, difference_told, ends_told, likeness_told, rest_of}
 use Rattle.comparison.specs.declared.Side.TheVariants.{First, Second}
 use Rattle.comparison.specs.declared.Difference.{Difference}
@@ -36,16 +34,16 @@ pub record Rest (first second : List ℕ) (ends : Option Ends) (rest : List ℕ)
 abbrev pub kind_in : List ℕ → ℕ
 kind_in r = get_or r 0 0
 
-abbrev pub first_differs : ℕ → Kind → Kind → Difference
+abbrev pub first_differs : ℕ → ℕ → ℕ → Difference
 first_differs n k l = record { number = n; first = k; second = l }
 
 -- of records that are numbered from m on, the one at place i is the first that differs from the number asked on
-pub record FirstFrom (from m i : ℕ) (k l : Kind) (rs ss : List (List ℕ)) : Type 0 where
+pub record FirstFrom (from m i k l : ℕ) (rs ss : List (List ℕ)) : Type 0 where
   pub asked : from ≤ m + i
   pub in_first : i < length rs
   pub in_second : i < length ss
-  pub kind_of_first : kind_in (get_or rs i []) ≡ code k
-  pub kind_of_second : kind_in (get_or ss i []) ≡ code l
+  pub kind_of_first : kind_in (get_or rs i []) ≡ k
+  pub kind_of_second : kind_in (get_or ss i []) ≡ l
   pub differ : get_or rs i [] ≡ get_or ss i [] → ⊥
   pub same_before : (j : ℕ) → from ≤ m + j → j < i → get_or rs j [] ≡ get_or ss j []
 

@@ -82,8 +82,8 @@ impl Walk {
         }
         self.difference.or(Some(Difference {
             number,
-            first: pair.first.kind,
-            second: pair.second.kind,
+            first: u8::from(pair.first.kind),
+            second: u8::from(pair.second.kind),
         }))
     }
 

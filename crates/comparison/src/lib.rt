@@ -9,7 +9,6 @@ pub mod one;
 
 use rules::refusals::Refusal;
 pub use trace::decoder::Whole;
-use trace::kind::Kind;
 
 #[derive(Clone, Copy)]
 pub enum Side {
@@ -25,11 +24,12 @@ pub struct Sides<T> {
 }
 
 // The first record that differs, with the kinds on both sides.
+// Kept (point 1): kinds as numbers, since `text::put_difference` prints any two bytes.
 #[derive(Clone, Copy)]
 pub struct Difference {
     pub number: usize,
-    pub first: Kind,
-    pub second: Kind,
+    pub first: u8,
+    pub second: u8,
 }
 
 // Which trace ends first, or neither, and after how many records.

@@ -1,6 +1,6 @@
 -- What each step on one leaf asks of its callers, so that every number fits 64 bits, and that the state's invariant gives it.
 -- Assumes nothing.
-use Rattle.std.specs.Prelude.{◌≡◌, true, ℕ, ◌+◌, ◌*◌, ◌^◌, ◌≤◌, ◌<◌}
+use Rattle.std.specs.Prelude.{◌≡◌, true, ℕ, ◌+◌, ◌*◌, ◌^◌, ◌≤◌, ◌<◌, Ok}
 use Rattle.std.proofs.Common.{add-mul, mul-le-mul_left, arith, leb-true}
 use Rattle.rules.specs.Numbers.{whole, queue_room, share_floor, cost_most, debt_most, elapsed_most}
 use Rattle.rules.specs.Units.{relative}
@@ -15,7 +15,7 @@ use Rattle.rules.specs.declared.units.Virt.{Virt}
 use Rattle.rules.specs.declared.budget.Row.{Row}
 use Rattle.rules.specs.declared.budget.Queue.{Queue}
 use Rattle.rules.specs.declared.budget.Controller.{Controller}
-use Rattle.rules.specs.declared.refusals.Answer.{Answer}
+use Rattle.rules.specs.Results.{Answered}
 use Rattle.rules.specs.declared.refusals.Answer.TheVariants.{Issued, Waits}
 
 -- the most that an active leaf was charged since the last plan, as the sum over all leaves allows it
@@ -50,16 +50,16 @@ pub record Payable (cost : Abs) (share : ℕ) (row : Row) : Type 0 where
   pub fits : (relative cost share).0 ≤ row.budget.0
   pub usage : row.usage.0 + cost.0 < 2 ^ 64
 
--- a row that can take an answer to a bio of this cost: only what fits is issued
-pub record CanTake (answer : Answer) (cost : Abs) (share : ℕ) (row : Row) : Type 0 where
+-- a row that can take an answer to a bio of this cost: only what fits is issued, and nothing is asked of a refusal
+pub record CanTake (answer : Answered) (cost : Abs) (share : ℕ) (row : Row) : Type 0 where
   pub books : FitRow share row
   pub cheap : cost.0 ≤ cost_most
-  pub fitting : answer ≡ Issued → fits cost share row ≡ true
+  pub fitting : answer ≡ Ok Issued → fits cost share row ≡ true
 
 -- a queue that can take an answer: there is room for one that waits
-pub record HasRoom (answer : Answer) (queue : Queue) : Type 0 where
+pub record HasRoom (answer : Answered) (queue : Queue) : Type 0 where
   pub sound : SoundQueue queue
-  pub room : answer ≡ Waits → queue.len < queue_room
+  pub room : answer ≡ Ok Waits → queue.len < queue_room
 
 -- a row that has gained and can repay
 pub record CanRepay (share : ℕ) (row : Row) : Type 0 where
@@ -86,7 +86,7 @@ module _ {cost : Abs} {share : ℕ} where
     usage = omega arith;
   }
 
-  pub issued_is_payable : {answer : Answer} {row : Row} → CanTake answer cost share row → answer ≡ Issued → Payable cost share row
+  pub issued_is_payable : {answer : Answered} {row : Row} → CanTake answer cost share row → answer ≡ Ok Issued → Payable cost share row
   issued_is_payable takes issued =
       fitting_is_payable takes.books.held takes.cheap (omega arith) (takes.fitting issued)
 

@@ -85,7 +85,7 @@ module _ (b : Bio) (o : Own) (w : Taken b o) (on : o.active ≡ true) where
         takes = record {
           books = can.fit on;
           cheap = rw known.1 known.0.1;
-          fitting = λ i. issues_what_fits (is_forced b) w.cost o.share o.row o.waiting (rw i at there);
+          fitting = λ i. issues_what_fits (is_forced b) w.cost o.share o.row o.waiting (there ∙ i);
         };
       })
 

@@ -1,6 +1,6 @@
 -- A bio on its own leaf: what a step asks of the leaf, and what an accepted bio leaves there once the leaf is active.
 -- Assumes nothing.
-use Rattle.std.specs.Prelude.{◌≡◌, true, ℕ, ◌≤◌, Option, Some, None}
+use Rattle.std.specs.Prelude.{◌≡◌, true, ℕ, ◌≤◌, Ok, Option, Some, None}
 use Rattle.rules.specs.Numbers.{cost_most}
 use Rattle.rules.specs.Cost.{bio_in_range}
 use Rattle.rules.specs.Budget.{pushed, noted, row_after}
@@ -38,7 +38,7 @@ queued (Some cost) id queue = pushed id cost queue
 -- a bio in range that is accepted, with its cost
 pub record CanBook (b : Bio) (answer : Answer) (cost : Abs) (share : ℕ) (row : Row) : Type 0 where
   pub range : bio_in_range b ≡ true
-  pub takes : CanTake answer cost share row
+  pub takes : CanTake (Ok answer) cost share row
 
 abbrev pub booked_by : Answer → Bio → Abs → ℕ → Row → Row
 booked_by answer b cost share row = noted b (row_after answer cost share row)

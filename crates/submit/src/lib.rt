@@ -72,7 +72,7 @@ pub fn joined(id: u32, cost: Abs, queue: Queue) -> Queue
     requires { SoundQueue queue × (queue.len < queue_room) }
     ensures { result ≡ pushed id cost queue }
 {
-    leaf::submission::queue_after(Answer::Waits, id, cost, queue)
+    leaf::submission::queue_after(Ok(Answer::Waits), id, cost, queue)
 }
 
 // What an accepted bio leaves in its leaf's row. Request Four: a flush "does not move the leaf's last end nor count as its
@@ -196,7 +196,7 @@ fn booked(bio: Bio, answer: Answer, cost: Abs, share: u64, row: Row) -> Row
     requires { CanBook bio answer cost share row }
     ensures { result ≡ booked_by answer bio cost share row }
 {
-    let taken = leaf::submission::row_after(answer, cost, share, row);
+    let taken = leaf::submission::row_after(Ok(answer), cost, share, row);
     noted(bio, taken)
 }
 

@@ -13,7 +13,6 @@ use Rattle.rules.specs.declared.trace.Record.{Record}
 use Rattle.rules.specs.declared.trace.Record.TheVariants.{Node, Model, Start, Bio as BioOf, Tick, Plan, Vrate, Weight}
 use Rattle.comparison.specs.declared.Side.TheVariants.{First, Second}
 use Rattle.comparison.specs.declared.Likeness.TheVariants.{Equal, Prefix, Different}
-use Rattle.trace.specs.declared.kind.Kind.TheVariants.{Bio as BioKind, Tick as TickKind}
 use Rattle.text.specs.Words.{bytes}
 use Rattle.text.specs.Text.{name_of, record_text}
 use Rattle.text.specs.Lines.{differs_line, ends_line, rest_line, likeness_line, error_line, difference_line, rest_length_line}
@@ -53,7 +52,7 @@ cases =
     ∷ reads (error_line First CutShort 57) "error first 17 57\n"
     ∷ reads (error_line Second UnknownKind 8) "error second 16 8\n"
     ∷ reads (error_line Second (BadTree (Level 63)) 0) "error second 23 0\n"
-    ∷ reads (difference_line (Some (record { number = 6; first = BioKind; second = TickKind }))) "difference 6 4 5\n"
+    ∷ reads (difference_line (Some (record { number = 6; first = 4; second = 5 }))) "difference 6 4 5\n"
     ∷ reads (difference_line None) "difference none\n"
     ∷ reads (rest_length_line 57) "rest 57\n"
     ∷ []

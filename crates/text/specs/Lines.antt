@@ -10,7 +10,6 @@ use Rattle.comparison.specs.declared.Difference.{Difference}
 use Rattle.comparison.specs.declared.Ends.{Ends}
 use Rattle.comparison.specs.declared.Likeness.{Likeness}
 use Rattle.comparison.specs.declared.Likeness.TheVariants.{Equal, Prefix, Different}
-use Rattle.trace.specs.Kinds.{code}
 use Rattle.text.specs.Words.{bytes}
 use Rattle.text.specs.Text.{worded, field_room, record_text, text_room}
 
@@ -50,7 +49,7 @@ error_line side x place = word_line (bytes "error " ++ side_word (Some side)) (n
 
 -- ---- the answers as they are: "give the first record .. where both traces have one and they differ, with the kinds on both sides, or none"
 unfoldable pub difference_line : Option Difference → List ℕ
-difference_line (Some d) = word_line (bytes "difference") (d.number ∷ code d.first ∷ code d.second ∷ [])
+difference_line (Some d) = word_line (bytes "difference") (d.number ∷ d.first ∷ d.second ∷ [])
 difference_line None = word_line (bytes "difference none") []
 
 -- how many bytes the rest takes

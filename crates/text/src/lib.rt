@@ -185,11 +185,7 @@ pub fn put_difference(difference: Option<Difference>, out: &mut [u8]) -> usize
     match difference {
         Some(d) => put_line(
             b"difference",
-            &[
-                d.number as u64,
-                u64::from(u8::from(d.first)),
-                u64::from(u8::from(d.second)),
-            ],
+            &[d.number as u64, u64::from(d.first), u64::from(d.second)],
             out,
         ),
         None => put_line(b"difference none", &[], out),

@@ -7,15 +7,13 @@ use Rattle.std.proofs.Math.Bool.{false}
 use mathlib.Core.List.{List, [], ◌∷◌, ◌++◌}
 use Prim.Native.Nat.{ℕ, zero, suc, ◌+◌, ◌-◌, ◌<◌}
 use Rattle.std.proofs.Math.Seq.{drop-length}
-use Rattle.rules.specs.Trace.{read_at, record_of}
+use Rattle.rules.specs.Trace.{read_at}
 use Rattle.rules.proofs.Laws.Bools.{never, true_not_false}
 use Rattle.rules.specs.declared.refusals.Refusal.{Refusal}
 use Rattle.rules.proofs.Laws.Trace.{beyond_is_cut}
 use Rattle.trace.specs.Extents.{extent_at}
 use Rattle.trace.specs.declared.decoder.Whole.{Whole}
-use Rattle.trace.specs.Kinds.{code, kind_in as kind_in_body}
-use Rattle.trace.specs.declared.kind.Kind.{Kind}
-use Rattle.trace.proofs.KindLaws.{kind_in_record}
+use Rattle.trace.specs.Kinds.{code}
 use Rattle.comparison.specs.Compare.{Extent, is_whole, past_of, records_end_from, records_end, Fault, error_by, error_in, same_bytes, between, pair_at, Stepped, is_pair, else_difference, advanced, passed, step_of, likeness_if, concluded, compared_from, compared, error_of, walked, at_start}
 use Rattle.comparison.specs.Theorems.{kind_in, first_differs, ends_first, ends_second, ends_neither}
 use Rattle.comparison.proofs.Laws.Steps.{WholeAt, Extending, each_extent, extent_of_lem, ended_extent, records_end_here, records_end_on, pair_step, first_ends_step, second_ends_step, both_end_step, walk_here, walk_on_lem, walk_on}
@@ -159,30 +157,18 @@ module _ (trace : List ℕ) where
       back w = rw (broken_end w.0 w.1, extent_of_lem trace at (Err x) w.1)
 
 -- ---- a record begins with its kind
-abbrev pub kind_by : List ℕ → Kind
-kind_by r = kind_in_body (record_of (kind_in r) [])
-
 begins_with : {trace : List ℕ} {at : ℕ} {w : Whole} → WholeAt trace at w → kind_in (between at w.next trace) ≡ code w.kind
 begins_with {trace} {at} {w} v =
     let long : 0 < w.next - at = omega (arith, v.onward) in
     let here : at + 0 ≡ at = omega arith in
     get_or-take (w.next - at) (drop at trace) 0 0 long ∙ get_or-drop at trace 0 0 ∙ rw here (sym v.kind_here)
 
--- each of these does
-pub data Known : List (List ℕ) → Type 0 where
-  known_none : Known []
-  known_more : {r : List ℕ} {rs : List (List ℕ)} → code (kind_by r) ≡ kind_in r → Known rs → Known (r ∷ rs)
-
-pub records_known : {trace : List ℕ} {at : ℕ} {rs : List (List ℕ)} → Records trace at rs → Known rs
-records_known (none_left e) = known_none
-records_known (one_more {w = w} v rest) = known_more (rw (begins_with v) (ap code (kind_in_record w.kind []))) (records_known rest)
-
 -- ---- the answer by the records: one definition for each of its members
 unfoldable pub difference_in : ℕ → ℕ → List (List ℕ) → List (List ℕ) → Option Difference
 difference_in from n [] ss = None
 difference_in from n (r ∷ rs) [] = None
 difference_in from n (r ∷ rs) (s ∷ ss) =
-    cond (leb from n && not (same_bytes r s)) (Some (first_differs n (kind_by r) (kind_by s))) (difference_in from (n + 1) rs ss)
+    cond (leb from n && not (same_bytes r s)) (Some (first_differs n (kind_in r) (kind_in s))) (difference_in from (n + 1) rs ss)
 
 unfoldable pub ends_in : ℕ → List (List ℕ) → List (List ℕ) → Ends
 ends_in n [] [] = ends_neither n
@@ -207,9 +193,6 @@ listed from w rs ss =
 else_none : (d : Option Difference) → else_difference d None ≡ d
 else_none (Some d) = refl
 else_none None = refl
-
-kind_first : {trace : List ℕ} {at : ℕ} {w : Whole} → WholeAt trace at w → kind_by (between at w.next trace) ≡ w.kind
-kind_first {w = w} v = rw (begins_with v) (kind_in_record w.kind [])
 
 -- alike at the end of both, and of one
 alike_equal : (alike : Bool) → likeness_if alike None ≡ cond alike Equal Different
@@ -251,13 +234,13 @@ module _ (first second : List ℕ) (from : ℕ) where
   pair_listed {p} {q} {a} {b} rs ss v u w f g rest =
       goes_on w (Ok (Pair both)) (rw (f, g) (pair_step v u)) refl
       ∙ rest (passed from (Ok (Pair both)) w) refl refl
-      ∙ rw (kind_first v, kind_first u, noted_lem w.difference both.same (leb from w.reach.number) here (difference_in from (w.reach.number + 1) rs ss))
+      ∙ rw (begins_with v, begins_with u, noted_lem w.difference both.same (leb from w.reach.number) here (difference_in from (w.reach.number + 1) rs ss))
     where
       both : PairOf
       both = pair_at first p a second q b
 
       here : Difference
-      here = record { number = w.reach.number; first = a.kind; second = b.kind }
+      here = record { number = w.reach.number; first = code a.kind; second = code b.kind }
 
   pub by_the_records : {p q : ℕ} {rs ss : List (List ℕ)} → Records first p rs → Records second q ss → (w : Walk) → w.reach.first ≡ p → w.reach.second ≡ q
       → compared_from first second (walk_on first second from w) ≡ listed from w rs ss
