@@ -1,13 +1,13 @@
 -- What a side holds: the places are inside its buffer, and no sum of them passes 64 bits. And what a round does with it.
 -- Assumes nothing.
-use Rattle.std.specs.Prelude.{◌≡◌, ℕ, ◌+◌, ◌^◌, ◌≤◌, Bool, true, false, cond, not, ◌&&◌, List, length, take, ◌==◌, Option, Some, None, Result, Ok, Err, IsOk, IsErr, ⊤}
+use Rattle.std.specs.Prelude.{◌≡◌, ℕ, suc, ◌+◌, ◌^◌, ◌≤◌, Bool, true, false, cond, not, ◌&&◌, List, length, take, ◌==◌, Option, Some, None, Result, Ok, Err, IsOk, IsErr, ⊤}
 use Rattle.std.specs.declared.io.Error.{Error as IoError}
 use Rattle.rules.specs.Refusals.{number}
 use Rattle.trace.specs.Extents.{extent_at}
 use Rattle.comparison.specs.Compare.{Extent, Fault, records_end, error_by}
 use Rattle.comparison.specs.declared.Side.{Side}
 use Rattle.compare.specs.declared.Failure.{Failure}
-use Rattle.compare.specs.declared.Failure.TheVariants.{Erred}
+use Rattle.compare.specs.declared.Failure.TheVariants.{Unread, Erred}
 use Rattle.compare.specs.declared.side.Held.{Held}
 
 pub record Inside (h : Held) (room : ℕ) : Type 0 where
@@ -58,10 +58,20 @@ pub data OneScan (s : Held) (r : Result (Option Extent) IoError) (t : Held) (buf
   unread : Inside t (length buf) → IsErr r → t ≡ s → OneScan s r t buf
   scanned : (h : Held) (done : ⊤) (found : Option Extent) → Refilled s (Ok done) h (length buf) → Scans h buf found t → r ≡ Ok found → OneScan s r t buf
 
--- how a walk over one side ended: its error by what stands where its whole records end, and its length where it has none
+-- rounds of a walk over one side that may try so many, and what is found by the last of them: what stands for good where the whole
+-- records end, or that a read failed. One that may still go on has found nothing
+pub data Finds : ℕ → Held → Result Extent IoError → Held → Type 0 where
+  on : {s m t : Held} {buf : List ℕ} {more : ℕ} {r : Result Extent IoError} → OneScan s (Ok None) m buf → Finds more m r t → Finds (suc more) s r t
+  ends : {s t : Held} {buf : List ℕ} {more : ℕ} {end : Extent} → OneScan s (Ok (Some end)) t buf → Finds (suc more) s (Ok end) t
+  unread : {s t : Held} {buf : List ℕ} {more : ℕ} {why : IoError} → OneScan s (Err why) t buf → Finds (suc more) s (Err why) t
+  unfinished : {s : Held} {why : IoError} → Finds 0 s (Err why) s
+
+-- how a walk over one side ended: its error by what stands where its whole records end, its length where it has none, or that it could
+-- not be read
 abbrev pub length_unless : Fault → ℕ → Result ℕ Failure
 length_unless (Ok none) length = Ok length
 length_unless (Err e) length = Err (Erred e)
 
-abbrev pub walked_as : Side → Extent → ℕ → Result ℕ Failure
-walked_as side found end = length_unless (error_by side found end) end
+abbrev pub walked_as : Side → Result Extent IoError → Held → Result ℕ Failure
+walked_as side (Ok found) h = length_unless (error_by side found (h.base + h.place)) (h.base + h.place)
+walked_as side (Err why) h = Err (Unread side why)

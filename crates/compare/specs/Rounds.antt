@@ -1,6 +1,6 @@
 -- What one round of the second walk does with the parts that are held, with its lines and with what is read next.
 -- Assumes nothing.
-use Rattle.std.specs.Prelude.{◌≡◌, ℕ, ◌+◌, ◌-◌, ◌≤◌, Bool, true, false, not, ◌&&◌, List, length, ◌==◌, nat_lt, Option, Some, None, Result, Ok, Err}
+use Rattle.std.specs.Prelude.{◌≡◌, ℕ, ◌+◌, ◌-◌, ◌≤◌, Bool, true, false, not, ◌&&◌, List, [], ◌∷◌, length, ◌==◌, nat_lt, Option, Some, None, Result, Ok, Err}
 use Rattle.comparison.specs.Compare.{Stepped, step_at, is_pair, likeness_by}
 use Rattle.comparison.specs.declared.Side.{Side}
 use Rattle.comparison.specs.declared.Side.TheVariants.{First, Second}
@@ -8,6 +8,7 @@ use Rattle.comparison.specs.declared.Sides.{Sides}
 use Rattle.comparison.specs.declared.Step.TheVariants.{Pair, Over}
 use Rattle.comparison.specs.declared.Reach.{Reach}
 use Rattle.comparison.specs.declared.Likeness.{Likeness}
+use Rattle.comparison.specs.declared.Likeness.TheVariants.{Equal, Prefix, Different}
 use Rattle.listing.specs.Listing.{Lines, listed, Lists, closing_by}
 use Rattle.listing.specs.declared.Listed.{Listed}
 use Rattle.compare.specs.Parts.{Inside, part, wants_more, passed_to}
@@ -122,15 +123,21 @@ abbrev pub places_of : Standing → Sides ℕ
 places_of s = record { first = s.first.base + s.first.place; second = s.second.base + s.second.place }
 
 -- the lines that close it
-abbrev pub closing_held : Stepped → Reach → Sides ℕ → Sides ℕ → List ℕ
-closing_held at r places l = closing_by at r.number r.alike (l.first - places.first) (l.second - places.second)
+abbrev pub closing_held : Stepped → Standing → Sides ℕ → List ℕ
+closing_held at s l = closing_by at s.number s.alike (l.first - (places_of s).first) (l.second - (places_of s).second)
 
 -- what came of the comparison: how alike the traces are, and of a trace that changed nothing is told
-abbrev pub outcome_of : Option Likeness → Result Likeness Failure
-outcome_of (Some likeness) = Ok likeness
-outcome_of None = Err Changed
+abbrev pub unless_changed : Option Likeness → Result Likeness Failure
+unless_changed (Some likeness) = Ok likeness
+unless_changed None = Err Changed
+
+-- the word by which a mark tells it, with a line feed: "equal" exactly where the traces are, and else "other"
+abbrev pub word_of : Likeness → List ℕ
+word_of Equal = 101 ∷ 113 ∷ 117 ∷ 97 ∷ 108 ∷ 10 ∷ []
+word_of Prefix = 111 ∷ 116 ∷ 104 ∷ 101 ∷ 114 ∷ 10 ∷ []
+word_of Different = 111 ∷ 116 ∷ 104 ∷ 101 ∷ 114 ∷ 10 ∷ []
 
 pub data Closes (s : Standing) (l : Sides ℕ) (a b : List ℕ) (r : Result Likeness Failure) : Type 0 where
-  closed : is_unchanged (step_held s a b) (places_of s) l ≡ true → r ≡ outcome_of (likeness_by (step_held s a b) s.alike) → Closes s l a b r
+  closed : is_unchanged (step_held s a b) (places_of s) l ≡ true → r ≡ unless_changed (likeness_by (step_held s a b) s.alike) → Closes s l a b r
   changed : is_unchanged (step_held s a b) (places_of s) l ≡ false → r ≡ Err Changed → Closes s l a b r
   not_taken : could_write r ≡ false → Closes s l a b r

@@ -87,9 +87,13 @@ impl Standing {
         self.alike = r.alike;
     }
 
-    // How many bytes this walk has read so far.
-    fn read(&self) -> u64 {
-        (self.first.base as u64).wrapping_add(self.second.base as u64)
+    // How many bytes of both lie before the last read of each, of which that of this side failed, if one did.
+    fn read(&self, failed: Option<Side>) -> u64
+        requires { ((places_of self.now).first < 2 ^ 64) × ((places_of self.now).second < 2 ^ 64) }
+    {
+        let first = self.first.read_from(matches!(failed, Some(Side::First)));
+        let second = self.second.read_from(matches!(failed, Some(Side::Second)));
+        (first as u64).wrapping_add(second as u64)
     }
 }
 
@@ -160,11 +164,19 @@ fn round<F: FileExt, W: Write>(
     // Kept (point 6): the lines are the front of an array with their count, since the project has no heap.
     let listed = told(s, a, b, out);
     let count = listed.count;
-    watch.clear_before(count, s.read());
+    watch.clear_before(count, s.read(None));
     let put = write(to, &out[..count]);
     s.pass(listed.reach);
     s.put = put.map_err(|short| Failure::Unwritten(short.why))?;
     onward(s, files, a, b)
+}
+
+// The side that could not be read, where this is what failed.
+fn unread<T>(end: &Result<T, Failure>) -> Option<Side> {
+    match end {
+        Err(Failure::Unread(side, _)) => Some(*side),
+        _ => None,
+    }
 }
 
 // Round by round, up to the end of the walk.
@@ -183,9 +195,9 @@ fn run<F: FileExt, W: Write>(
     ensures { Stands s.new (length a.new) (length b.new) }
 {
     for _ in 0..TRIES {
-        let over = round(s, watch, files, to, a, b, out)?;
-        watch.show(s.read());
-        if over {
+        let over = round(s, watch, files, to, a, b, out);
+        watch.show(s.read(unread(&over)));
+        if over? {
             return Ok(());
         }
     }
@@ -211,19 +223,19 @@ fn is_unchanged(at: Result<Step, Error>, places: Sides<usize>, lengths: Sides<us
 // Kept (points 4 and 5): no `write!` and no writer, as in `listing`: the contract says which bytes stand in front (`Written`).
 fn put_closing(
     at: Result<Step, Error>,
-    r: Reach,
-    places: Sides<usize>,
+    s: &Standing,
     lengths: Sides<usize>,
     out: &mut [u8],
 ) -> usize
-    requires { (places.first ≤ lengths.first) × ((places.second ≤ lengths.second) × (closing_room ≤ length out.old)) }
-    ensures { Written (closing_held at r places lengths) result out.old out.new × (result ≤ closing_room) }
+    requires { ((places_of s.now).first ≤ lengths.first) × (((places_of s.now).second ≤ lengths.second) × (closing_room ≤ length out.old)) }
+    ensures { Written (closing_held at s.now lengths) result out.old out.new × (result ≤ closing_room) }
 {
+    let places = s.places();
     let left = Sides {
         first: (lengths.first - places.first) as u64,
         second: (lengths.second - places.second) as u64,
     };
-    close(at, r, left, out)
+    close(at, s.reach(), left, out)
 }
 
 // The end of a walk: its lines, unless a trace changed.
@@ -243,7 +255,7 @@ fn closed<W: Write>(
     if !is_unchanged(at, places, lengths) {
         return Err(Failure::Changed);
     }
-    let count = put_closing(at, s.reach(), places, lengths, out);
+    let count = put_closing(at, s, lengths, out);
     write(to, &out[..count]).map_err(|short| Failure::Unwritten(short.why))?;
     likeness_by(at, s.alike).ok_or(Failure::Changed)
 }
@@ -260,7 +272,7 @@ pub(crate) fn differences<F: FileExt, W: Write>(
     let mut out = [0u8; 65536];
     let mut s = Standing::fresh();
     let end = run(&mut s, watch, files, to, &mut a, &mut b, &mut out);
-    watch.clear(s.read());
+    watch.clear(s.read(unread(&end)));
     end?;
     closed(&s, lengths, to, &a, &b, &mut out)
 }

@@ -4,6 +4,9 @@
 // and what a line says is decided in `comparison`, `listing` and below.
 #![tactic(auto)]
 
+ghost use Rattle.std.specs.Prelude.{◌≡◌};
+ghost use Rattle.compare.specs.Rounds.{word_of};
+
 mod differences;
 mod errors;
 mod said;
@@ -146,10 +149,12 @@ fn asked(rt: &HostRuntime, place: usize, to: &mut Stdout) -> Result<Likeness, Fa
 }
 
 // Kept (point 4): two words for three cases, which only the mark of this program has.
-fn word_of(likeness: Likeness) -> &'static str {
+fn word_of(likeness: Likeness) -> &'static [u8]
+    ensures { result.now ≡ word_of likeness }
+{
     match likeness {
-        Likeness::Equal => "equal\n",
-        Likeness::Prefix | Likeness::Different => "other\n",
+        Likeness::Equal => b"equal\n".as_slice(),
+        Likeness::Prefix | Likeness::Different => b"other\n".as_slice(),
     }
 }
 

@@ -35,6 +35,13 @@ impl Held {
         self.base + self.place
     }
 
+    // Where the last read began: one that failed left what is held, and was of the bytes behind what is passed.
+    pub(crate) fn read_from(self, failed: bool) -> usize
+        requires { self.base + self.place < 2 ^ 64 }
+    {
+        if failed { self.at() } else { self.base }
+    }
+
     // The part that begins at the first byte that is not passed yet. Where it cannot be read, what is held stays.
     pub(crate) fn refill<F: FileExt>(&mut self, file: &F, buf: &mut [u8]) -> IoResult<()>
         requires { Inside self.old (length buf.old) }

@@ -1,6 +1,6 @@
 -- Request Seven: two traces compared record by record, numbered from 0.
 -- Assumes nothing.
-use Rattle.std.specs.Prelude.{Bool, true, false, cond, ◌&&◌, List, [], ◌∷◌, ℕ, zero, suc, ◌+◌, ◌-◌, eqb, leb, length, take, drop, Option, Some, None, Result, Ok, Err, ⊤}
+use Rattle.std.specs.Prelude.{Bool, true, false, cond, ◌&&◌, List, [], ◌∷◌, ℕ, zero, suc, ◌+◌, ◌-◌, eqb, leb, length, take, drop, Option, Some, None, unwrap_or, Result, Ok, Err, ⊤}
 use Rattle.rules.specs.declared.refusals.Refusal.{Refusal}
 use Rattle.trace.specs.Extents.{extent_at}
 use Rattle.trace.specs.Kinds.{code}
@@ -162,18 +162,13 @@ likeness_by (Ok (Over side)) alike = Some (likeness_if alike side)
 likeness_by (Ok (Pair p)) alike = None
 likeness_by (Err e) alike = None
 
--- who ends first where a walk is over: of two traces without errors it is over nowhere else
-abbrev pub side_by : Stepped → Option Side
-side_by (Ok (Over side)) = side
-side_by (Ok (Pair p)) = None
-side_by (Err e) = None
-
+-- a walk over two traces without errors is over at no step at which nothing is told
 unfoldable pub concluded : Stepped → Walk → Comparison
 concluded s w =
     record {
       difference = w.difference;
-      ends = record { side = side_by s; records = w.reach.number };
-      likeness = likeness_if w.reach.alike (side_by s);
+      ends = unwrap_or (ends_by s w.reach.number) (record { side = None; records = w.reach.number });
+      likeness = unwrap_or (likeness_by s w.reach.alike) (likeness_if w.reach.alike None);
     }
 
 abbrev pub Told : Type 0

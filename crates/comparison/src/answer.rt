@@ -2,7 +2,7 @@
 // the longer trace where one is a prefix of the other.
 ghost use Rattle.std.specs.Prelude.{◌≡◌};
 ghost use Rattle.comparison.specs.Paper.{comparison_paper, compared_paper};
-ghost use Rattle.comparison.specs.Compare.{other_side, side_by, ends_by, likeness_if, likeness_by, concluded, compared, longer_by, longer_of, rest_of};
+ghost use Rattle.comparison.specs.Compare.{other_side, ends_by, likeness_if, likeness_by, concluded, compared, longer_by, longer_of, rest_of};
 
 use crate::both::{step, walk};
 use crate::one::error_in;
@@ -20,7 +20,7 @@ impl Side {
 }
 
 // Which trace ends first, by the step at which the walk ended; nothing is told of a step at which no trace ends.
-// Kept (point 2): a function under this, `likeness_by` and `side_by` would answer an `Option<Option<Side>>`, and say less.
+// Kept (point 2): a function under this and `likeness_by` would answer an `Option<Option<Side>>`, and say less.
 // Kept (point 4): a step that may be an error is a `Result`, and a crate can give std's type no methods.
 pub fn ends_by(s: Result<Step, Error>, number: usize) -> Option<Ends>
     ensures { result ≡ ends_by s number }
@@ -55,28 +55,20 @@ pub fn likeness_by(s: Result<Step, Error>, alike: bool) -> Option<Likeness>
     }
 }
 
-// Who ends first at the end of a walk. Without an error no other step is its last.
-fn side_by(s: Result<Step, Error>) -> Option<Side>
-    ensures { result ≡ side_by s }
-{
-    match s {
-        Ok(Step::Over(side)) => side,
-        _ => None,
-    }
-}
-
+// Without an error the last step of a walk is one at which a trace ends, and both are told.
 #[tactic(auto, unfolding(crate::specs::Compare::concluded))]
 fn concluded(s: Result<Step, Error>, w: Walk) -> Comparison
     ensures { result ≡ concluded s w }
 {
-    let side = side_by(s);
+    let records = w.reach.number;
+    let alike = w.reach.alike;
     Comparison {
         difference: w.difference,
-        ends: Ends {
-            side,
-            records: w.reach.number,
-        },
-        likeness: likeness_if(w.reach.alike, side),
+        ends: ends_by(s, records).unwrap_or(Ends {
+            side: None,
+            records,
+        }),
+        likeness: likeness_by(s, alike).unwrap_or(likeness_if(alike, None)),
     }
 }
 

@@ -1,7 +1,7 @@
 // Both traces: one step over a place in each, and the walk from step to step.
 ghost use Rattle.std.specs.Prelude.{◌≡◌, Ok, Some, ◌+◌, ◌^◌, ◌≤◌, ◌<◌, length};
 ghost use Rattle.trace.specs.Extents.{extent_at};
-ghost use Rattle.comparison.specs.Compare.{found_by, pair_at, step_at, is_pair, advanced, noted, passed, reach_at_start, at_start, walked};
+ghost use Rattle.comparison.specs.Compare.{found_by, same_bytes, pair_at, step_at, is_pair, advanced, noted, passed, reach_at_start, at_start, walked};
 
 use crate::one::extent;
 use crate::{Difference, Error, Pair, Reach, Side, Step, Walk, Whole};
@@ -18,7 +18,36 @@ fn found(side: Side, trace: &[u8], at: usize) -> Result<Option<Whole>, Error>
     })
 }
 
-// One step over both places. An error of the first trace is told before one of the second.
+// Bodies of one width, as arrays of it: where the compiler knows how many bytes there are, it needs no loop and no call.
+fn same_in<const WIDTH: usize>(first: &[u8], second: &[u8]) -> bool
+    requires { (length first.now ≡ WIDTH) × (length second.now ≡ WIDTH) }
+    ensures { result ≡ same_bytes first.now second.now }
+{
+    <[u8; WIDTH]>::try_from(first).unwrap() == <[u8; WIDTH]>::try_from(second).unwrap()
+}
+
+// Are two bodies the same? The widths named are those that short records have, since a trace may have very many of them; any
+// other is compared as well, so no layout is told here again.
+#[inline(always)]
+fn same_body(first: &[u8], second: &[u8]) -> bool
+    ensures { result ≡ same_bytes first.now second.now }
+{
+    if first.len() != second.len() {
+        return false;
+    }
+    match first.len() {
+        0 => true,
+        2 => same_in::<2>(first, second),
+        3 => same_in::<3>(first, second),
+        8 => same_in::<8>(first, second),
+        _ => first == second,
+    }
+}
+
+// One step over both places. An error of the first trace is told before one of the second. Of two records the first bytes,
+// which are their kinds, are compared before the bodies.
+// Inlined in each walk, always: what it answers is large, and would be written and read again at each record.
+#[inline(always)]
 #[tactic(auto, unfolding(crate::specs::Compare::step_at, crate::specs::Compare::step_by))]
 pub fn step(first: &[u8], p: usize, second: &[u8], q: usize) -> Result<Step, Error>
     ensures { result ≡ step_at first.now p second.now q }
@@ -29,7 +58,8 @@ pub fn step(first: &[u8], p: usize, second: &[u8], q: usize) -> Result<Step, Err
         (Some(one), Some(other)) => Ok(Step::Pair(Pair {
             first: one,
             second: other,
-            same: first[p..one.next] == second[q..other.next],
+            same: first[p] == second[q]
+                && same_body(&first[p + 1..one.next], &second[q + 1..other.next]),
         })),
         (Some(_), None) => Ok(Step::Over(Some(Side::Second))),
         (None, Some(_)) => Ok(Step::Over(Some(Side::First))),

@@ -24,6 +24,23 @@ fn sum_over(set: u64, shares: &[u32; 64]) -> u64
     sum
 }
 
+// The takers are the active leaves that are no donors.
+#[tactic(auto, using(rules::proofs::Laws::Sets::less_bits), unfolding(rules::specs::Plan::is_taker))]
+fn takers(active: u64, donors: u64) -> u64
+    ensures { result ≡ set_of (is_taker active donors) }
+{
+    (active | donors) ^ donors
+}
+
+// "With no donor or ..": a set of leaves is 0 when it has no member.
+#[tactic(auto, using(crate::proofs::Rest::both_some))]
+pub fn is_donation(active: u64, donors: u64) -> bool
+    requires { (member active 0 ≡ false) × (member donors 0 ≡ false) }
+    ensures { result ≡ is_donation active donors }
+{
+    (donors != 0) & (takers(active, donors) != 0)
+}
+
 // What non-donors get their part of: left is S - T, and kept is S - D.
 #[derive(Clone, Copy)]
 struct Quota {
@@ -68,21 +85,17 @@ pub struct Giving<'a> {
 }
 
 impl<'a> Giving<'a> {
-    // The takers are the active leaves that are no donors.
-    #[tactic(auto, using(rules::proofs::Laws::Sets::less_bits), unfolding(rules::specs::Plan::is_taker))]
     fn takers(&self) -> u64
         ensures { result ≡ set_of (is_taker self.now.active self.now.donors) }
     {
-        (self.active | self.donors) ^ self.donors
+        takers(self.active, self.donors)
     }
 
-    // "With no donor or ..": a set of leaves is 0 when it has no member.
-    #[tactic(auto, using(crate::proofs::Rest::both_some))]
     pub fn is_donation(&self) -> bool
         requires { (member self.now.active 0 ≡ false) × (member self.now.donors 0 ≡ false) }
         ensures { result ≡ is_donation self.now.active self.now.donors }
     {
-        (self.donors != 0) & (self.takers() != 0)
+        is_donation(self.active, self.donors)
     }
 
     // The shares of all leaves before what remains is handed out.

@@ -82,7 +82,7 @@ pub fn is_unread(why: Error) -> bool {
 
 // What a person can do where a file cannot be read.
 #[derive(Clone, Copy)]
-pub(crate) enum Remedy {
+pub enum Remedy {
     NameAnother,
     MakeReadable,
     Rename,
@@ -99,7 +99,7 @@ impl Remedy {
 
     // The remedy, where one is known.
     // Kept (point 4): no `From`, since some errors have no remedy.
-    pub(crate) fn of(why: Error) -> Option<Remedy> {
+    pub fn of(why: Error) -> Option<Remedy> {
         match why.kind() {
             ErrorKind::NotFound
             | ErrorKind::NotADirectory

@@ -41,20 +41,20 @@ pub fn is_asked(rt: &impl Env) -> bool {
 // Writes the mark, which is a word and a line feed, behind what is there. The program has closed what it opened: a file of its
 // own may have had the number where the caller gave none. A pipe is opened for both ways, since to open one for writing alone
 // waits for a reader.
-pub fn mark(rt: &impl Files, word: &str) -> io::Result<()> {
+pub fn mark(rt: &impl Files, word: &[u8]) -> io::Result<()> {
     if !is_open(rt, REPORT, Way::Writing) {
         return Err(Error::from(Trouble::Closed));
     }
     let both = is_pipe(rt, REPORT);
     let mut report = OpenOptions::new().read(both).append(true).open(rt, REPORT)?;
-    write(&mut report, word.as_bytes())?;
+    write(&mut report, word)?;
     Ok(())
 }
 
 // Lines that could not be written. Where nobody reads them any more, a caller that asked for a mark is told so by one, and says
 // the rest itself.
 pub fn mark_unwritten(rt: &impl Files, speaker: Speaker, why: Error) {
-    if !is_unread(why) || mark(rt, "gone\n").is_err() {
+    if !is_unread(why) || mark(rt, b"gone\n").is_err() {
         speaker.output_unwritten(why);
     }
 }

@@ -20,12 +20,12 @@ use Rattle.rules.proofs.Laws.Units.{ceil_least}
 use lib.ListN.{length, get_or}
 use Rattle.rules.specs.Budget.{empty_row, empty_queue}
 use Rattle.rules.specs.Plan.{forgiven, stays}
-use Rattle.rules.proofs.Laws.Tables.{get_D_inside}
+use Rattle.rules.proofs.Laws.Tables.{get_D_inside, table_at, table_length}
 use Rattle.rules.specs.declared.budget.Row.{Row}
 use Rattle.rules.specs.declared.budget.Queue.{Queue}
 use Rattle.leaf.specs.Alone.{length_only, stays_with, is_donor_with, donor_by_count}
 use Rattle.leaf.proofs.Sums.{sum_rest}
-use Rattle.plan.specs.Steps.{usage, usage_of, gives_at, keeps_at, left_at}
+use Rattle.plan.specs.Steps.{usage, usage_of, gives_at, keeps_at, left_at, bare_queues}
 use Rattle.std.specs.Prelude.{sum_by}
 use lib.ListN.{take, drop}
 use mathlib.Core.List.{List}
@@ -120,6 +120,27 @@ module _ (active : ℕ) (quiet : Bool) (rows : List Row) (queues : List Queue) {
   gives_told bases targets {target = target} {base = base} {row = row} a b r t =
       rw (sym e ∙ on)
       (sym (t ∙ sym (donor_by_count target base row (get_or queues n (length_only 0))) ∙ rw (queue_here, a, b, r)))
+
+-- ---- the same by how many wait
+module _ (waiting : List ℕ) where
+  pub bare_len : (n : ℕ) (d : Queue) → n < nodes_most → get_or waiting n 0 ≡ (get_or (bare_queues waiting) n d).len
+  bare_len n d node = sym (ap (λ (q : Queue). q.len) (table_at (λ (k : ℕ). length_only (get_or waiting k 0)) n d node))
+
+  bare_full : length (bare_queues waiting) ≡ nodes_most
+  bare_full = table_length (λ (k : ℕ). length_only (get_or waiting k 0))
+
+  pub keeps_counted : (quiet : Bool) (rows : List Row) {n : ℕ} → n < nodes_most → {row : Row} {told : Bool} → row ≡ forgiven quiet (get_or rows n empty_row)
+      → told ≡ stays_with row (get_or waiting n 0) → keeps_at quiet rows (bare_queues waiting) n ≡ told
+  keeps_counted quiet rows {n} node {row} r t =
+      keeps_told quiet rows (bare_queues waiting) bare_full node r (t ∙ ap (stays_with row) (bare_len n (length_only 0) node))
+
+  pub gives_counted : (active : ℕ) (quiet : Bool) (rows : List Row) {n : ℕ} → n < nodes_most → {b : Bool} → b ≡ has active n → b ≡ true
+      → (bases targets : List ℕ) {target base : ℕ} {row : Row} {told : Bool} → target ≡ get_or targets n 0 → base ≡ get_or bases n 0
+      → row ≡ forgiven quiet (get_or rows n empty_row)
+      → told ≡ is_donor_with target base row (get_or waiting n 0) → gives_at active quiet bases targets rows (bare_queues waiting) n ≡ told
+  gives_counted active quiet rows {n} node e on bases targets {target} {base} {row} x y r t =
+      gives_told active quiet rows (bare_queues waiting) bare_full node e on bases targets x y r
+      (t ∙ ap (is_donor_with target base row) (bare_len n (length_only 0) node))
 
 -- ---- the usage of all leaves is that of all rows but the first
 pub usage_sums : (rows : List Row) → length rows ≡ nodes_most → sum_by usage (take 63 (drop 1 rows)) ≡ (usage_of rows).0

@@ -4,7 +4,7 @@ use Rattle.std.specs.Prelude.{Bool, ◌&&◌, ◌||◌, leb, List, ℕ, ◌*◌,
 use Rattle.rules.specs.Numbers.{leaf_most, nodes_most}
 use Rattle.rules.specs.Words.{sum_to, table, has, set_of}
 use Rattle.rules.specs.Units.{abs}
-use Rattle.rules.specs.Budget.{empty_row, empty_queue, with_budget, rebudget}
+use Rattle.rules.specs.Budget.{empty_row, empty_queue, length_only, with_budget, rebudget}
 use Rattle.rules.specs.Plan.{forgiven, stays, rested, restarted, target_of, is_donor}
 use Rattle.rules.specs.Invariant.{worth_most}
 use Rattle.rules.specs.declared.units.Abs.{Abs}
@@ -62,6 +62,10 @@ donors_of active quiet bases targets rows queues = set_of (gives_at active quiet
 
 abbrev pub planned_rows : Bool → ℕ → List ℕ → List ℕ → List Row → List Row
 planned_rows quiet active before after rows = table (planned_at quiet active before after rows)
+
+-- queues that say how many wait and hold none of them
+abbrev pub bare_queues : List ℕ → List Queue
+bare_queues waiting = table (λ n. length_only (get_or waiting n 0))
 
 -- no budget is worth too much to follow a new share
 pub record CanFollow (quiet : Bool) (active : ℕ) (before : List ℕ) (rows : List Row) : Type 0 where

@@ -1,21 +1,24 @@
 // The entry plan: debts are forgiven, idle leaves go inactive, base shares are worked out anew and donated, and usage
-// and E start at 0. `replan` has the steps in order, on a state where it stands; each step over the leaves is one loop, lent
-// their rows and queues, and what it does to one leaf is a function here or in the crate leaf.
+// and E start at 0. `replan` has the steps in order, on a state where it stands, and `parts` takes them for a caller that shows
+// parts of one; each step over the leaves is one loop, lent their rows and queues, and what it does to one leaf is a function
+// here or in the crate leaf.
 #![tactic(auto)]
 
 ghost use Rattle.std.specs.Prelude.{◌≡◌, [], ◌*◌, ◌^◌, ◌≤◌, ◌<◌, ltb, sum_by};
-ghost use Rattle.rules.specs.Plan.{is_quiet, restarted_clock};
+ghost use Rattle.rules.specs.Plan.{is_quiet, restarted_clock, plan as plan_of};
 ghost use Rattle.rules.specs.Refusals.{verdict_paper, paper_of, plan_checks};
 ghost use Rattle.rules.specs.Entries.{planned};
 ghost use Rattle.rules.specs.Invariant.{worth_most, Sound};
 ghost use Rattle.leaf.specs.Fit.{usage_most};
-ghost use Rattle.plan.specs.Sharing.{CanShare, sharing_of};
-ghost use Rattle.plan.specs.Steps.{usage, usage_of, staying_of, targets_of, donors_of, closed_row, planned_row, planned_rows, CanFollow};
+ghost use Rattle.rules.specs.declared.budget.Controller.{Controller};
+ghost use Rattle.plan.specs.Sharing.{CanShare, sharing_of, Shown, put_plan};
+ghost use Rattle.plan.specs.Steps.{usage, usage_of, staying_of, targets_of, donors_of, closed_row, planned_row, planned_rows, CanFollow, bare_queues};
 
 use donation::Giving;
 use leaf::plan::{Elapsed, forgiven, is_donor, plan_row, stays};
 use rules::budget::{Clock, Controller, Outcome, Queue, Row};
 use rules::refusals::Refusal;
+use rules::tree::Tree;
 use rules::units::{Abs, Virt};
 use sets::{has, insert, remove};
 use tree::shares::base_shares;
@@ -59,6 +62,21 @@ fn staying(active: u64, quiet: bool, rows: &[Row; 64], queues: &[Queue; 64]) -> 
     staying
 }
 
+// The same by how many wait at each leaf.
+// Kept (point 2): the loop of `staying`. `parts` is shown no queues, and would spend a third of its time on an array of them;
+// one loop for both would be lent a closure that says how many wait.
+fn staying_counted(active: u64, quiet: bool, rows: &[Row; 64], waiting: &[u8; 64]) -> u64
+    ensures { result ≡ staying_of active quiet rows.now (bare_queues waiting.now) }
+{
+    let mut staying = active;
+    for (n, row) in rows.iter().enumerate() {
+        if !stays(forgiven(quiet, *row), waiting[n]) {
+            staying = remove(staying, n);
+        }
+    }
+    staying
+}
+
 // The target of each leaf, by its usage since the last plan.
 fn targets_in(elapsed: Elapsed, rows: &[Row; 64]) -> [u32; 64]
     ensures { result ≡ targets_of elapsed.since rows.now }
@@ -90,6 +108,29 @@ fn donors_in(
         let target = u64::from(targets[n]);
         let base = u64::from(bases[n]);
         if has(active, n) && is_donor(target, base, forgiven(quiet, rows[n]), queues[n].len) {
+            donors = insert(donors, n);
+        }
+    }
+    donors
+}
+
+// The same by how many wait at each leaf.
+// Kept (points 2, 3, 5 and 6): as `staying_counted` and `donors_in`.
+fn donors_counted(
+    active: u64,
+    quiet: bool,
+    bases: &[u32; 64],
+    targets: &[u32; 64],
+    rows: &[Row; 64],
+    waiting: &[u8; 64],
+) -> u64
+    ensures { result ≡ donors_of active quiet bases.now targets.now rows.now (bare_queues waiting.now) }
+{
+    let mut donors: u64 = 0;
+    for n in 0..64usize {
+        let target = u64::from(targets[n]);
+        let base = u64::from(bases[n]);
+        if has(active, n) && is_donor(target, base, forgiven(quiet, rows[n]), waiting[n]) {
             donors = insert(donors, n);
         }
     }
@@ -143,6 +184,50 @@ fn follow(quiet: bool, active: u64, before: &[u32; 64], after: &[u32; 64], rows:
     }
 }
 
+// What a plan leaves of the state, but for E, which starts at 0.
+#[derive(Clone, Copy)]
+pub struct Planned {
+    pub active: u64,
+    pub donors: u64,
+    pub shares: [u32; 64],
+    pub rows: [Row; 64],
+}
+
+// A plan that is not refused, shown what it needs of the state: it answers what changes, and its caller puts this into the
+// state that it holds. Its steps are those of `carry_out`, which says what each does.
+// Kept (point 5): docs/entries.md names it with what it is shown, and no other function is lent just these.
+pub fn parts(
+    tree: Tree,
+    since: Virt,
+    was: u64,
+    before: &[u32; 64],
+    mut rows: [Row; 64],
+    waiting: &[u8; 64],
+) -> Planned
+    requires { (c : Controller) × Shown c tree since was before.now rows waiting.now }
+    ensures { (c : Controller) → Shown c tree since was before.now rows waiting.now → put_plan result c ≡ plan_of c }
+{
+    let elapsed = Elapsed { since };
+    let quiet = is_quiet(usage_all(&rows), since);
+    let active = staying_counted(was, quiet, &rows, waiting);
+    let bases = base_shares(tree, active);
+    let targets = targets_in(elapsed, &rows);
+    let donors = donors_counted(active, quiet, &bases, &targets, &rows, waiting);
+    let sharing = shared(&Giving {
+        active,
+        donors,
+        bases: &bases,
+        targets: &targets,
+    });
+    follow(quiet, active, before, &sharing.shares, &mut rows);
+    Planned {
+        active,
+        donors: sharing.donors,
+        shares: sharing.shares,
+        rows,
+    }
+}
+
 // A plan is refused exactly when no virtual time has passed since the last one.
 pub fn is_due(clock: Clock) -> bool
     ensures { result ≡ ltb 0 clock.since.0 }
@@ -160,14 +245,12 @@ pub fn restarted(clock: Clock) -> Clock
     }
 }
 
-// A plan of a state where it stands. A refused one leaves all as it was.
-pub fn replan(c: &mut Controller) -> Result<(), Refusal>
-    requires { Sound c.old }
-    ensures { (result ≡ (planned c.old).answer) × (c.new ≡ (planned c.old).state) }
+// The steps of a plan that is due, in order. They are a function of their own, since a function pays for its tables where it
+// begins, and a refused plan has no use for them.
+fn carry_out(c: &mut Controller)
+    requires { Sound c.old × (0 < c.old.clock.since.0) }
+    ensures { c.new ≡ plan_of c.old }
 {
-    if !is_due(c.clock) {
-        return Err(Refusal::NothingPassed);
-    }
     let elapsed = Elapsed {
         since: c.clock.since,
     };
@@ -193,6 +276,17 @@ pub fn replan(c: &mut Controller) -> Result<(), Refusal>
     c.active = active;
     c.donors = sharing.donors;
     c.shares = sharing.shares;
+}
+
+// A plan of a state where it stands. A refused one leaves all as it was.
+pub fn replan(c: &mut Controller) -> Result<(), Refusal>
+    requires { Sound c.old }
+    ensures { (result ≡ (planned c.old).answer) × (c.new ≡ (planned c.old).state) }
+{
+    if !is_due(c.clock) {
+        return Err(Refusal::NothingPassed);
+    }
+    carry_out(c);
     Ok(())
 }
 

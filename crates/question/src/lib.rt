@@ -12,7 +12,6 @@ ghost use Rattle.submit.specs.OnLeaf.{CanRule};
 use rules::budget::{Controller, Own};
 use rules::cost::Bio;
 use rules::refusals::{Answer, Refusal};
-use submit::View;
 
 // What a bio would be answered, by what is its node's own. This is all that is looked at: no other leaf is to be seen from
 // here. It is the answer of the decision by which submission goes too.
@@ -25,10 +24,20 @@ pub fn answer(bio: Bio, own: Own) -> Result<Answer, Refusal>
 }
 
 // The question to a state that is lent.
+#[tactic(auto, using(submit::proofs::Decisions::place_inside))]
 pub fn ask(c: &Controller, bio: Bio) -> Result<Answer, Refusal>
     requires { Sound c.now }
     ensures { (result ≡ question bio c.now) × (answer_paper result ≡ paper_of (submit_checks bio c.now) (letters_of (would_be c.now bio))) }
 {
     let node = submit::place_of(bio);
-    answer(bio, submit::own_of(node, View::at(c, node)))
+    let own = submit::own_of(
+        node,
+        c.leaves,
+        c.active,
+        c.model,
+        c.shares[node],
+        c.rows[node],
+        c.queues[node].len,
+    );
+    answer(bio, own)
 }

@@ -1,16 +1,19 @@
 -- What the proofs of a round share, stated of plain values: a run that ends, a read behind the bytes that wait, what is left
 -- at the front, and a round of these.
 -- Assumes nothing.
-use Rattle.std.proofs.Common.{◌≡◌, ℕ, ◌+◌, ◌-◌, ◌≤◌, Bool, true, false, List, [], ◌++◌, length, take, drop, sym, refl, ap, ◌∙◌, subst, append-nil, arith, length-append, length-drop, length-take, length-take-le, take_at, take-add, drop_at, Result, Ok, Err, OnOk}
+use Rattle.std.proofs.Common.{◌≡◌, ℕ, suc, ◌+◌, ◌-◌, ◌^◌, ◌≤◌, ◌<◌, Bool, true, false, List, [], ◌++◌, length, take, drop, sym, refl, ap, ◌∙◌, subst, append-nil, arith, length-append, length-drop, length-take, length-take-le, take_at, take-add, drop_at, Result, Ok, Err, OnOk}
 use Rattle.rules.specs.Chunks.{fed}
 use Rattle.rules.specs.Replay.{beginning}
 use Rattle.rules.specs.Invariant.{Playing}
 use Rattle.rules.specs.declared.replay.Fed.{Fed}
 use Rattle.rules.specs.declared.replay.Pause.TheVariants.{Over}
-use Rattle.replay.specs.Rounds.{Stands, waiting, part_of, Replayed, LeftOver, Onward, could_write, OneRound, Ends, FromTheBeginning}
+use Rattle.replay.specs.Rounds.{Stands, waiting, part_of, Replayed, LeftOver, Onward, could_write, OneRound, Ends, EndsBy, FromTheBeginning}
 use Rattle.replay.specs.Rounds.Ends.{on, end}
+use Rattle.replay.specs.Rounds.EndsBy.{on as on_by, well, failed, unfinished}
 use Rattle.replay.specs.declared.rounds.Standing.{Standing}
 use Rattle.replay.specs.declared.rounds.Failure.{Failure}
+use Rattle.replay.specs.declared.rounds.Failure.TheVariants.{Unread}
+use Rattle.std.specs.declared.io.Error.{Error as IoError}
 
 -- a run whose bytes that wait are untouched
 pub stays_so : {s : Standing} (chunk after : List ℕ) → Stands s (length chunk) → take s.filled after ≡ take s.filled chunk → Onward s chunk s after
@@ -79,6 +82,28 @@ goes_on {s} {m} {chunk = chunk} {mid} {room = room} k is e rest = on (subst (λ 
 pub is_over : {s t : Standing} {chunk after : List ℕ} {room : ℕ} {r : Result Bool Failure} {done : Bool} → OneRound s chunk room r t after → r ≡ Ok done
     → done ≡ true → Ends s chunk t after
 is_over {s} {t} {chunk} {after} {room} k is e = end (subst (λ (q : Result Bool Failure). OneRound s chunk room q t after) (is ∙ ap Ok e) k)
+
+-- the same with the tries that are left
+module _ {s m : Standing} {chunk mid : List ℕ} {room : ℕ} {r : Result Bool Failure} (n : ℕ) (k : OneRound s chunk room r m mid) (left : n < 2 ^ 64 - 1) where
+  one_less : suc (2 ^ 64 - 1 - (n + 1)) ≡ 2 ^ 64 - 1 - n
+  one_less = omega (arith, left)
+
+  here : {q : Result Bool Failure} → r ≡ q → OneRound s chunk room q m mid
+  here e = subst (λ (q : Result Bool Failure). OneRound s chunk room q m mid) e k
+
+  pub tries_on : {q : Result (Unit {0}) Failure} {done : Bool} → r ≡ Ok done → done ≡ false → EndsBy (2 ^ 64 - 1 - (n + 1)) m mid q → EndsBy (2 ^ 64 - 1 - n) s chunk q
+  tries_on {q} is e rest = subst (λ (j : ℕ). EndsBy j s chunk q) one_less (on_by (here (is ∙ ap Ok e)) rest)
+
+  pub tries_well : {done : Bool} → r ≡ Ok done → done ≡ true → EndsBy (2 ^ 64 - 1 - n) s chunk (Ok tt)
+  tries_well is e = subst (λ (j : ℕ). EndsBy j s chunk (Ok tt)) one_less (well (here (is ∙ ap Ok e)))
+
+  pub tries_failed : {why : Failure} → r ≡ Err why → EndsBy (2 ^ 64 - 1 - n) s chunk (Err why)
+  tries_failed {why} is = subst (λ (j : ℕ). EndsBy j s chunk (Err why)) one_less (failed (here is))
+
+pub tries_end : (s : Standing) (chunk : List ℕ) (n : ℕ) {why : IoError} → 2 ^ 64 - 1 ≤ n → EndsBy (2 ^ 64 - 1 - n) s chunk (Err (Unread why))
+tries_end s chunk n {why} h =
+    let none : 0 ≡ 2 ^ 64 - 1 - n = omega (arith, h) in
+    subst (λ (j : ℕ). EndsBy j s chunk (Err (Unread why))) none unfinished
 
 pub from_the_beginning : (r : Result (Unit {0}) Failure) (s t : Standing) (chunk after : List ℕ) → s.replay ≡ beginning → s.filled ≡ 0
     → OnOk r (Ends s chunk t after) → OnOk r FromTheBeginning

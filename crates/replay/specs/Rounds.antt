@@ -2,7 +2,8 @@
 -- prints what the whole trace prints. That the bytes which the writes took are those of the lines, and the bytes which the reads
 -- brought those of the trace, is what `Ran` takes for granted; that they are as many is in `OneRound`.
 -- Assumes nothing.
-use Rattle.std.specs.Prelude.{◌≡◌, ℕ, ◌≤◌, Bool, true, false, List, [], ◌++◌, length, take, drop, Result, Ok, Err}
+use Rattle.std.specs.Prelude.{◌≡◌, ℕ, suc, ◌≤◌, Bool, true, false, List, [], ◌++◌, length, take, drop, Result, Ok, Err}
+use Rattle.std.specs.declared.io.Error.{Error as IoError}
 use Rattle.std.proofs.Common.{subst, refl}
 use Rattle.rules.specs.Trace.{read_at}
 use Rattle.rules.specs.Replay.{beginning, replay}
@@ -69,6 +70,14 @@ pub record OneRound (s : Standing) (chunk : List ℕ) (room : ℕ) (r : Result B
 pub data Ends : Standing → List ℕ → Standing → List ℕ → Type 0 where
   on : {s m t : Standing} {chunk mid after : List ℕ} {room : ℕ} → OneRound s chunk room (Ok false) m mid → Ends m mid t after → Ends s chunk t after
   end : {s t : Standing} {chunk after : List ℕ} {room : ℕ} → OneRound s chunk room (Ok true) t after → Ends s chunk t after
+
+-- how a run ends that may try so many rounds: as its last round did, and one that may still go on has not come to the end of its trace
+pub data EndsBy : ℕ → Standing → List ℕ → Result (Unit {0}) Failure → Type 0 where
+  on : {s m : Standing} {chunk mid : List ℕ} {room more : ℕ} {r : Result (Unit {0}) Failure}
+      → OneRound s chunk room (Ok false) m mid → EndsBy more m mid r → EndsBy (suc more) s chunk r
+  well : {s t : Standing} {chunk after : List ℕ} {room more : ℕ} → OneRound s chunk room (Ok true) t after → EndsBy (suc more) s chunk (Ok tt)
+  failed : {s t : Standing} {chunk after : List ℕ} {room more : ℕ} {why : Failure} → OneRound s chunk room (Err why) t after → EndsBy (suc more) s chunk (Err why)
+  unfinished : {s : Standing} {chunk : List ℕ} {why : IoError} → EndsBy 0 s chunk (Err (Unread why))
 
 -- from the beginning of a trace, of which nothing is read yet
 pub record FromTheBeginning : Type 0 where

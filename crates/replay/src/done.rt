@@ -8,5 +8,5 @@ use std::rt::Files;
 pub(crate) fn tell(rt: &impl Files, end: Result<(), Failed>)
     requires { IsOk end }
 {
-    let _ = mark(rt, "done\n");
+    let _ = mark(rt, b"done\n");
 }

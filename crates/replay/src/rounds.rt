@@ -8,9 +8,9 @@
 // that `round` hands `write` the front of the line buffer, that `host::descriptor::write` and `read` hand the system what they
 // are lent, that `replay_from` begins at the beginning and goes from round to round, and that it answers how its last round
 // ended.
-ghost use Rattle.std.specs.Prelude.{◌≡◌, ◌≤◌, true, length, OnOk, Ok};
+ghost use Rattle.std.specs.Prelude.{◌≡◌, ◌-◌, ◌^◌, ◌≤◌, true, length, OnOk, Ok};
 ghost use Rattle.rules.specs.Invariant.{Playing};
-ghost use Rattle.replay.specs.Rounds.{Stands, Replayed, LeftOver, Onward, OneRound, Ends, FromTheBeginning};
+ghost use Rattle.replay.specs.Rounds.{Stands, Replayed, LeftOver, Onward, OneRound, Ends, EndsBy, FromTheBeginning};
 
 use host::descriptor::{TRIES, read, write};
 use host::said::{Watcher, clear, clear_before, show};
@@ -119,7 +119,7 @@ fn round<R: Read, W: Write>(
 // Round by round, up to the one by which the replay is over. Where it could still go on, the rest of its trace is unread.
 // Kept (point 2): this loop and those of the two walks of `compare` were tried as one that is lent the round as a closure. What
 // a round requires of what the closure holds, and what holds of it behind the loop, didn't close.
-#[tactic(auto, using(crate::proofs::Round::goes_on, crate::proofs::Round::is_over))]
+#[tactic(auto, using(crate::proofs::Round::goes_on, crate::proofs::Round::is_over, crate::proofs::Round::tries_on, crate::proofs::Round::tries_well, crate::proofs::Round::tries_failed, crate::proofs::Round::tries_end))]
 fn run<R: Read, W: Write>(
     s: &mut Standing,
     from: &mut R,
@@ -129,9 +129,10 @@ fn run<R: Read, W: Write>(
     out: &mut [u8],
 ) -> Result<(), Failure>
     requires { Stands s.old (length chunk.old) }
-    ensures { OnOk result (Ends s.old chunk.old s.new chunk.new) }
+    ensures over { OnOk result (Ends s.old chunk.old s.new chunk.new) }
+    ensures ends { EndsBy (2 ^ 64 - 1) s.old chunk.old result }
 {
-    for _ in 0..TRIES {
+    for _tries in 0..TRIES {
         if round(s, from, to, watcher, chunk, out)? {
             return Ok(());
         }

@@ -12,7 +12,7 @@ ghost use Rattle.rules.specs.Refusals.{first_of, room_checks, answer_paper, lett
 ghost use Rattle.rules.specs.Entries.{submitted};
 ghost use Rattle.rules.specs.Invariant.{Sound, SoundQueue};
 ghost use Rattle.leaf.specs.Alone.{length_only};
-ghost use Rattle.rules.specs.Question.{when_active, refused_by, ruling};
+ghost use Rattle.rules.specs.Question.{when_active, own_of, refused_by, ruling};
 ghost use Rattle.submit.specs.OnLeaf.{CanAnswer, CanRule, CanBook, queueing, booked_by};
 ghost use Rattle.submit.specs.Decision.{place_of, view_at, own_in, CanDecide, shares_after, decision};
 
@@ -108,7 +108,7 @@ fn when_active(
 // What a bio is shown of the state: the sets, the model, and of the books at its place the share, the row and how many wait.
 // A queue is not handed about: to copy it takes longer than to judge the bio.
 // Kept (point 2): `Own` says of each set whether the node is in it and no more, since nothing else may decide a question
-// (`nothing_else_decides`); `own_of` makes it of what is shown here.
+// (`nothing_else_decides`); `own` makes it of what is shown here.
 #[derive(Clone, Copy)]
 pub struct View {
     pub leaves: u64,
@@ -135,20 +135,44 @@ impl View {
             waiting: c.queues[node].len,
         }
     }
+
+    // What is the node's own of what is shown at its place.
+    fn own(self, node: usize) -> Own
+        requires { node < nodes_most }
+        ensures { result ≡ own_in node self }
+    {
+        own_of(
+            node,
+            self.leaves,
+            self.active,
+            self.model,
+            self.share,
+            self.row,
+            self.waiting,
+        )
+    }
 }
 
-// What is the node's own, of what is shown at its place.
-pub fn own_of(node: usize, view: View) -> Own
+// What is the node's own, by the sets, the model and its books.
+pub fn own_of(
+    node: usize,
+    leaves: u64,
+    active: u64,
+    model: Model,
+    share: u32,
+    row: Row,
+    waiting: u8,
+) -> Own
     requires { node < nodes_most }
-    ensures { result ≡ own_in node view }
+    ensures { result ≡ own_of node leaves active model share row waiting }
 {
     Own {
-        leaf: sets::has(view.leaves, node),
-        active: sets::has(view.active, node),
-        model: view.model,
-        share: view.share,
-        row: view.row,
-        waiting: view.waiting,
+        leaf: sets::has(leaves, node),
+        active: sets::has(active, node),
+        model,
+        share,
+        row,
+        waiting,
     }
 }
 
@@ -166,6 +190,8 @@ fn refused(x: Refusal) -> Ruling
 // but what is the node's own.
 // Kept (point 1): what is ruled on a refused bio is a `Ruling` too, whose cost `Bench.Questions` states, so `?` has no error
 // to hand on here.
+// Inlined, always: what is the node's own is large, and would be written and read again for each question.
+#[inline(always)]
 pub fn rule(bio: Bio, own: Own) -> Ruling
     requires { CanRule own }
     ensures { result ≡ ruling bio own }
@@ -234,7 +260,7 @@ pub fn decide(bio: Bio, node: usize, view: View) -> Result<Decision, Refusal>
     requires { CanDecide node view }
     ensures { result ≡ decision bio node view }
 {
-    let own = own_of(node, view);
+    let own = view.own(node);
     let ruled = rule(bio, own);
     let answer = ruled.answer?;
     let cost = ruled.cost;

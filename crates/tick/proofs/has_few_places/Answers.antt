@@ -8,11 +8,12 @@ use Rattle.rules.proofs.Laws.States.{waiting_small}
 use Rattle.tick.proofs.Answers.{all_wait, few_wait}
 use Rattle.tick.proofs.has_few_places.Goals as goal
 
-pub waiting_in-requires : goal.waiting_in-requires
-waiting_in-requires c = few_wait c.requires
-
+-- above the need that a lie about it may leave true: the first error is what is false
 pub returns-then-places-lt-WAITING_MOST : goal.returns-then-places-lt-WAITING_MOST
 returns-then-places-lt-WAITING_MOST c = ap (ltb c.args.places) (c.waiting_in.ensures ∙ all_wait c.requires)
+
+pub waiting_in-requires : goal.waiting_in-requires
+waiting_in-requires c = few_wait c.requires
 
 pub returns-else-places-lt-WAITING_MOST : goal.returns-else-places-lt-WAITING_MOST
 returns-else-places-lt-WAITING_MOST c =

@@ -8,6 +8,15 @@ use Rattle.rules.proofs.Laws.Passes.{tick_passes}
 use Rattle.tick.proofs.Answers.{clock-refuses, too-few-places, enough-places, refuses, accepts}
 use Rattle.tick.proofs.pass.Goals as goal
 
+-- above the answers that a lie about the clock may leave true: the first error is what is false
+pub accepted-requires : goal.accepted-requires
+accepted-requires c =
+    let a = c.args in (
+      c.requires,
+      tick_passes _ _ _ (enough-places a.time (length a.out.now) a.c.now c.verdict.ensures c.in_ok-verdict.was refl
+          (ltb-false _ _ (sym c.has_few_places.ensures ∙ c.if-has_few_places.false))),
+    )
+
 pub returns-in_err-verdict : goal.returns-in_err-verdict
 returns-in_err-verdict c =
     let a = c.args in
@@ -21,14 +30,6 @@ returns-then-has_few_places c =
     refuses a.time a.out.now a.c.now refl
     (too-few-places a.time (length a.out.now) a.c.now c.verdict.ensures c.in_ok-verdict.was refl
     (ltb-true _ _ (sym c.has_few_places.ensures ∙ c.if-has_few_places.true)))
-
-pub accepted-requires : goal.accepted-requires
-accepted-requires c =
-    let a = c.args in (
-      c.requires,
-      tick_passes _ _ _ (enough-places a.time (length a.out.now) a.c.now c.verdict.ensures c.in_ok-verdict.was refl
-          (ltb-false _ _ (sym c.has_few_places.ensures ∙ c.if-has_few_places.false))),
-    )
 
 pub returns : goal.returns
 returns c =

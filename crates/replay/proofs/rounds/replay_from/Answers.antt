@@ -5,4 +5,4 @@ use Rattle.replay.proofs.Round.{from_the_beginning}
 use Rattle.replay.proofs.rounds.replay_from.Goals as goal
 
 pub returns : goal.returns
-returns g c = from_the_beginning c.run-end.result _ _ _ _ c.beginning.ensures.0 refl c.run-end.ensures
+returns g c = from_the_beginning c.run-end.result _ _ _ _ c.beginning.ensures.0 refl c.run-end.ensures.over
