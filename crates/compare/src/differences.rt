@@ -87,13 +87,9 @@ impl Standing {
         self.alike = r.alike;
     }
 
-    // How many bytes of both lie before the last read of each, of which that of this side failed, if one did.
-    fn read(&self, failed: Option<Side>) -> u64
-        requires { ((places_of self.now).first < 2 ^ 64) × ((places_of self.now).second < 2 ^ 64) }
-    {
-        let first = self.first.read_from(matches!(failed, Some(Side::First)));
-        let second = self.second.read_from(matches!(failed, Some(Side::Second)));
-        (first as u64).wrapping_add(second as u64)
+    // How many bytes this walk has read so far.
+    fn read(&self) -> u64 {
+        (self.first.base as u64).wrapping_add(self.second.base as u64)
     }
 }
 
@@ -164,19 +160,11 @@ fn round<F: FileExt, W: Write>(
     // Kept (point 6): the lines are the front of an array with their count, since the project has no heap.
     let listed = told(s, a, b, out);
     let count = listed.count;
-    watch.clear_before(count, s.read(None));
+    watch.clear_before(count, s.read());
     let put = write(to, &out[..count]);
     s.pass(listed.reach);
     s.put = put.map_err(|short| Failure::Unwritten(short.why))?;
     onward(s, files, a, b)
-}
-
-// The side that could not be read, where this is what failed.
-fn unread<T>(end: &Result<T, Failure>) -> Option<Side> {
-    match end {
-        Err(Failure::Unread(side, _)) => Some(*side),
-        _ => None,
-    }
 }
 
 // Round by round, up to the end of the walk.
@@ -196,7 +184,7 @@ fn run<F: FileExt, W: Write>(
 {
     for _ in 0..TRIES {
         let over = round(s, watch, files, to, a, b, out);
-        watch.show(s.read(unread(&over)));
+        watch.show(s.read());
         if over? {
             return Ok(());
         }
@@ -272,7 +260,7 @@ pub(crate) fn differences<F: FileExt, W: Write>(
     let mut out = [0u8; 65536];
     let mut s = Standing::fresh();
     let end = run(&mut s, watch, files, to, &mut a, &mut b, &mut out);
-    watch.clear(s.read(unread(&end)));
+    watch.clear(s.read());
     end?;
     closed(&s, lengths, to, &a, &b, &mut out)
 }

@@ -1,7 +1,7 @@
 -- What is held stays inside the buffer from round to round, and what is found from where the loop stands, with the tries that are left,
 -- is found from where it began.
 -- Assumes nothing.
-use Rattle.std.proofs.Common.{ℕ, ◌-◌, ◌^◌, length, Result}
+use Rattle.std.proofs.Common.{◌-◌, ◌^◌, length, Result}
 use Rattle.std.specs.declared.io.Error.{Error as IoError}
 use Rattle.comparison.specs.Compare.{Extent}
 use Rattle.compare.specs.Parts.{Inside, Finds}

@@ -1,6 +1,6 @@
 -- `record::step` meets its contract: nothing without room, nothing once stopped, a call alone, or what else was read.
 -- Assumes nothing.
-use Rattle.std.proofs.Common.{◌≡◌, refl, sym, ◌∙◌, arith, rules}
+use Rattle.std.proofs.Common.{◌≡◌, refl, sym, ◌∙◌, rules}
 use Rattle.rules.specs.Trace.{read_at}
 use Rattle.rules.specs.Replay.{is_stopped}
 use Rattle.steps.proofs.Records.{stopped_alone, steps_not, steps_no_more, steps_on, same_read, no_run, one_call}
